@@ -1,0 +1,32 @@
+/* What the benchmark's driver and the engines share. */
+#include <stddef.h>
+#include <stdint.h>
+
+/* A query as text, for engines that compile it, and as a table; reached has, for each start node x and each node y at
+   x * NODES + y, whether y is reached from x. */
+struct query {
+    const char *text;
+    const uint16_t *table;
+    size_t length;
+    const uint8_t *reached;
+};
+
+/* An engine. It reads the document once and compiles each query once; call is what is timed. */
+struct engine {
+    const char *name;
+    void (*open)(const char *xml, const uint16_t *tree, size_t nodes);
+    void (*compile)(const struct query *query);
+    /* evaluates the query from the one node */
+    void (*call)(size_t start);
+    /* the nodes that the last call found, added to a set of bytes */
+    void (*found)(uint8_t *set);
+};
+
+#ifdef __cplusplus
+extern "C" {
+#endif
+extern const struct engine libxml2_engine, pugixml_engine, geznauri_engine;
+void give_up(const char *why);
+#ifdef __cplusplus
+}
+#endif

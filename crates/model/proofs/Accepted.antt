@@ -1,0 +1,174 @@
+-- What accepted tables give the engine.
+use Prim.Native.Nat.{ℕ, zero, suc, _+_, _-_, _*_, _/_, _%_, _≤_, _<_}
+use native.Mathlib.Nat.{not-suc-le-zero, eq-or-lt-of-le}
+use native.Mathlib.Numerals.{sub-one}
+use native.Mathlib.Omega.{arith}
+use mathlib.Core.Path.{_≡_, refl, sym, ap, _∙_}
+use mathlib.Core.Logic.{⊎-elim}
+use mathlib.Core.Bool.{Bool, true, false, not, _&&_, _||_}
+use mathlib.Core.List.{List, _++_}
+use lib.ListN.{length, getD}
+use lib.Dec.{ltb, eqb, eqb·suc-zero}
+use borrow.Author.Tests.{ltb-true, ltb-false, eqb-true, eqb-false, not-false, ne-eqb, eq-eqb}
+use Rattle.model.specs.declared.Reply.{Reply}
+use Rattle.model.specs.Sets.{any, bit}
+use Rattle.model.specs.Tree.{Tree, treeOf, sizeOf}
+use Rattle.model.specs.Axes.{self, ancestor, descendant, following, preceding, descendantOrSelf}
+use Rattle.model.specs.QueryTable.{entriesOf, kind, left, right, tag, entry, lastOf}
+use Rattle.model.specs.Refusals.{Check, verdict}
+use Rattle.model.specs.Checks.{badTreeLength, badParent, badTag, treeChecks, leftPath, leftExpr, rightPath, rightExpr, namesVariable, hasLeft, hasRight, badQueryLength, badKind, badField, badStep, badVariable, badUnnamed, badOperand, badSort, badEntry, queryChecks, badNode, nodeChecks, tableChecks}
+use Rattle.model.specs.Accepted.{Falling, Sound, Ordered, Evaluable}
+use Rattle.model.proofs.Booleans.{no-yes, or-left, or-right, or-cases, no-or, guarded}
+use Rattle.model.proofs.Exists.{none-of}
+use Rattle.model.proofs.Axes.{descendant-lower, five-axes}
+use Rattle.model.proofs.Refusals.{Passes, numbered, accepted, all-pass, Passes-front}
+
+-- trees
+
+parent-before : (d : Tree) (m : ℕ) → Falling d m → badParent d (suc m) ≡ false → d .parent (suc m) < suc m
+unfolding badParent descendantOrSelf
+parent-before d m s h =
+    ⊎-elim
+    (λ p. let e : d .parent (suc m) ≡ m = eqb-true (d .parent (suc m)) m p in omega arith)
+    (λ p. let w : d .parent (suc m) < m = descendant-lower d m s (d .parent (suc m)) m (omega arith) p in omega arith)
+    (or-cases (eqb (d .parent (suc m)) m) (descendant d (d .parent (suc m)) m) (rw (sub-one (suc m)) at (not-false (descendantOrSelf d (d .parent (suc m)) (suc m - 1)) (rw (eqb·suc-zero m) at h))))
+
+pub prefix-falls : (d : Tree) (m : ℕ) → ((x : ℕ) → x ≤ m → badParent d x ≡ false) → Falling d m
+prefix-falls d zero h = record { falls = λ x p l. absurd (let z : 1 ≤ 0 = omega arith in not-suc-le-zero z) }
+prefix-falls d (suc m) h =
+    let ih = prefix-falls d m (λ x l. h x (omega arith)) in
+    record { falls = λ x p l. ⊎-elim (λ e. rw e (parent-before d m ih (h (suc m) (omega arith)))) (λ k. ih .falls x p (omega arith)) (eq-or-lt-of-le l) }
+
+-- what the nodes before x give, when none of them is bad
+pub falling-before : (d : Tree) (x : ℕ) → any x (badParent d) ≡ false → Falling d (x - 1)
+falling-before d x h = record { falls = λ z p l. prefix-falls d z (λ y k. none-of x (badParent d) y h (omega arith)) .falls z p (omega arith) }
+
+pub bad-root : (d : Tree) (x p : ℕ) → p ≡ d .parent x → x ≡ 0 → not (eqb p 65535) ≡ badParent d x
+unfolding badParent
+bad-root d x p e h = rw (h, e) (ap (λ (k : ℕ). not (eqb (d .parent k) 65535)) h)
+
+pub bad-other : (d : Tree) (x p : ℕ) (b : Bool) → b ≡ descendantOrSelf d p (x - 1) → p ≡ d .parent x → (x ≡ 0 → ⊥) → not b ≡ badParent d x
+unfolding badParent
+bad-other d x p b f e h = rw (ne-eqb x 0 h, f, e)
+
+-- an accepted tree is sound
+pub sound-of : (d : Tree) → 0 < d .size → d .size ≤ 256 → any (d .size) (badParent d) ≡ false → Sound d
+sound-of d a b h = record { some-node = a; at-most = b; falls = λ x p l. prefix-falls d x (λ y k. none-of (d .size) (badParent d) y h (omega arith)) .falls x p (omega arith) }
+
+-- and in document order
+pub ordered-of : (d : Tree) → 0 < d .size → d .size ≤ 256 → any (d .size) (badParent d) ≡ false → Ordered d
+unfolding badParent
+ordered-of d a b h = record {
+  sound = sound-of d a b h;
+  rule = λ y l. rw (sub-one (suc y)) at (not-false (descendantOrSelf d (d .parent (suc y)) (suc y - 1)) (rw (eqb·suc-zero y) at (none-of (d .size) (badParent d) (suc y) h l)));
+}
+
+-- an accepted tree is in document order
+pub tree-ordered : (t : List ℕ) → Passes (treeChecks t) → Ordered (treeOf t)
+unfolding treeChecks Passes
+tree-ordered t w =
+    let (z, m) = no-or (eqb (length t) 0) (not (eqb (length t % 2) 0) || ltb 512 (length t)) (w .0) in
+    let (o, g) = no-or (not (eqb (length t % 2) 0)) (ltb 512 (length t)) m in
+    let some : length t ≡ 0 → ⊥ = eqb-false (length t) 0 z in
+    let even : length t % 2 ≡ 0 = eqb-true (length t % 2) 0 (not-false (eqb (length t % 2) 0) o) in
+    let most : length t ≤ 512 = ltb-false 512 (length t) g in
+    ordered-of (treeOf t) (let a : 0 < length t / 2 = omega arith in a) (let b : length t / 2 ≤ 256 = omega arith in b) (w .1 .0)
+
+-- queries
+
+below : (a : Bool) (x y : ℕ) → (a && not (ltb x y)) ≡ false → a ≡ true → x < y
+below a x y h p = ltb-true x y (not-false (ltb x y) (guarded a (not (ltb x y)) h p))
+
+above : (a : Bool) (x y : ℕ) → (a && ltb x y) ≡ false → a ≡ true → y ≤ x
+above a x y h p = ltb-false x y (guarded a (ltb x y) h p)
+
+module _ (q : List ℕ) (least columns : ℕ) (b : Passes (queryChecks q least columns)) where
+  -- the length and the number of variables
+  pub entries-some : 0 < entriesOf q
+  unfolding queryChecks Passes
+  entries-some =
+      let (z, m) = no-or (eqb (length q) 0) (not (eqb (length q % 4) 0) || ltb 256 (length q)) (b .0) in
+      let (o, g) = no-or (not (eqb (length q % 4) 0)) (ltb 256 (length q)) m in
+      let some : length q ≡ 0 → ⊥ = eqb-false (length q) 0 z in
+      let four : length q % 4 ≡ 0 = eqb-true (length q % 4) 0 (not-false (eqb (length q % 4) 0) o) in
+      omega arith
+
+  pub columns-most : columns ≤ 3
+  unfolding queryChecks Passes
+  columns-most = ltb-false 3 columns (no-or (ltb columns least) (ltb 3 columns) (b .1 .0) .1)
+
+  pub columns-least : least ≤ columns
+  unfolding queryChecks Passes
+  columns-least = ltb-false columns least (no-or (ltb columns least) (ltb 3 columns) (b .1 .0) .0)
+
+  pub last-path : kind q (lastOf q) < 8
+  unfolding queryChecks Passes
+  last-path = ltb-true (kind q (lastOf q)) 8 (not-false (ltb (kind q (lastOf q)) 8) (b .1 .1 .1 .1 .1 .1 .1 .0))
+
+  module _ (e : ℕ) (l : e < entriesOf q) where
+    none : (k : ℕ) → any (entriesOf q) (badEntry q columns k) ≡ false → badEntry q columns k e ≡ false
+    none k h = none-of (entriesOf q) (badEntry q columns k) e h l
+
+    known-at : kind q e ≤ 12
+    unfolding queryChecks Passes badEntry
+    known-at = ltb-false 12 (kind q e) (none 10 (b .1 .1 .0))
+
+    fields-at : (badStep (entry q e) ≡ false) × ((badVariable columns (entry q e) || badUnnamed (entry q e)) ≡ false)
+    unfolding queryChecks Passes badEntry
+    fields-at = no-or (badStep (entry q e)) (badVariable columns (entry q e) || badUnnamed (entry q e)) (none 11 (b .1 .1 .1 .0))
+
+    axis-at : kind q e ≡ 0 → left q e ≤ 12
+    axis-at h =
+        let w = guarded (eqb (kind q e) 0) (ltb 12 (left q e) || eqb (tag q e) 65534) (fields-at .0) (eq-eqb (kind q e) 0 h) in
+        ltb-false 12 (left q e) (no-or (ltb 12 (left q e)) (eqb (tag q e) 65534) w .0)
+
+    variable-at : namesVariable (kind q e) ≡ true → left q e < columns
+    variable-at p = below (namesVariable (kind q e)) (left q e) columns (no-or (badVariable columns (entry q e)) (badUnnamed (entry q e)) (fields-at .1) .0) p
+
+    operands : ((hasLeft (kind q e) && not (ltb (left q e) e)) ≡ false) × ((hasRight (kind q e) && not (ltb (right q e) e)) ≡ false)
+    unfolding queryChecks Passes badEntry
+    operands = no-or (hasLeft (kind q e) && not (ltb (left q e) e)) (hasRight (kind q e) && not (ltb (right q e) e)) (none 12 (b .1 .1 .1 .1 .0))
+
+    left-at : hasLeft (kind q e) ≡ true → left q e < e
+    left-at p = below (hasLeft (kind q e)) (left q e) e (operands .0) p
+
+    right-at : hasRight (kind q e) ≡ true → right q e < e
+    right-at p = below (hasRight (kind q e)) (right q e) e (operands .1) p
+
+    sorts : (((leftPath (kind q e) && not (ltb (kind q (left q e)) 8)) || (leftExpr (kind q e) && ltb (kind q (left q e)) 8)) ≡ false) × (((rightPath (kind q e) && not (ltb (kind q (right q e)) 8)) || (rightExpr (kind q e) && ltb (kind q (right q e)) 8)) ≡ false)
+    unfolding queryChecks Passes badEntry
+    sorts = no-or _ _ (none 13 (b .1 .1 .1 .1 .1 .0))
+
+    left-sort : ((leftPath (kind q e) && not (ltb (kind q (left q e)) 8)) ≡ false) × ((leftExpr (kind q e) && ltb (kind q (left q e)) 8) ≡ false)
+    left-sort = no-or (leftPath (kind q e) && not (ltb (kind q (left q e)) 8)) (leftExpr (kind q e) && ltb (kind q (left q e)) 8) (sorts .0)
+
+    right-sort : ((rightPath (kind q e) && not (ltb (kind q (right q e)) 8)) ≡ false) × ((rightExpr (kind q e) && ltb (kind q (right q e)) 8) ≡ false)
+    right-sort = no-or (rightPath (kind q e) && not (ltb (kind q (right q e)) 8)) (rightExpr (kind q e) && ltb (kind q (right q e)) 8) (sorts .1)
+
+  -- an accepted query can be evaluated under any assignment to nodes
+  pub query-evaluable : (t nodes : List ℕ) → length nodes ≡ columns → ((k : ℕ) → k < length nodes → getD nodes k 0 < sizeOf t) → Evaluable t q nodes
+  query-evaluable t nodes many held = record {
+    known = known-at;
+    axis = axis-at;
+    left-path = λ e l p. (left-at e l (or-left (leftPath (kind q e)) (leftExpr (kind q e)) p), below (leftPath (kind q e)) (kind q (left q e)) 8 (left-sort e l .0) p);
+    left-expr = λ e l p. (left-at e l (or-right (leftPath (kind q e)) (leftExpr (kind q e)) p), above (leftExpr (kind q e)) (kind q (left q e)) 8 (left-sort e l .1) p);
+    right-path = λ e l p. (right-at e l (or-left (rightPath (kind q e)) (rightExpr (kind q e)) p), below (rightPath (kind q e)) (kind q (right q e)) 8 (right-sort e l .0) p);
+    right-expr = λ e l p. (right-at e l (or-right (rightPath (kind q e)) (rightExpr (kind q e)) p), above (rightExpr (kind q e)) (kind q (right q e)) 8 (right-sort e l .1) p);
+    variable = λ e l p. rw many (variable-at e l p);
+    node = held;
+  }
+
+-- the checks of a tree and a query have no number 0
+
+pub tree-numbered : (t : List ℕ) → numbered (treeChecks t) ≡ true
+unfolding treeChecks numbered
+tree-numbered t = refl
+
+pub query-numbered : (q : List ℕ) (least columns : ℕ) → numbered (queryChecks q least columns) ≡ true
+unfolding queryChecks numbered
+query-numbered q least columns = refl
+
+-- for the reader: from every node of an accepted tree, each node is on exactly one of the five axes
+pub axes-part : (t : List ℕ) → verdict (treeChecks t) .number ≡ 0 → (x y : ℕ) → x < sizeOf t → y < sizeOf t
+    → bit (self (treeOf t) x y) + (bit (ancestor (treeOf t) x y) + (bit (descendant (treeOf t) x y) + (bit (following (treeOf t) x y) + bit (preceding (treeOf t) x y)))) ≡ 1
+axes-part t h = five-axes (treeOf t) (tree-ordered t (accepted (treeChecks t) (tree-numbered t) h) .sound)

@@ -1,0 +1,139 @@
+-- Laws of sets as bytes, and of the loops that fill them.
+use Prim.Native.Nat.{ℕ, zero, suc, _+_, _≤_, _<_}
+use native.Mathlib.Nat.{not-suc-le-zero, le-of-suc-le-suc}
+use native.Mathlib.Numerals.{add-one}
+use native.Mathlib.Omega.{arith}
+use mathlib.Core.Path.{_≡_, refl, sym, ap, _∙_}
+use mathlib.Core.Bool.{Bool, true, false, not, _&&_, _||_, and-comm}
+use mathlib.Core.List.{List, [], _∷_, _++_, append-assoc}
+use lib.ListN.{length, getD, set, drop, replicate, length-append, length-drop, length-set, length-replicate, getD-replicate}
+use lib.Seq.{ext-getD, getD-set-same, getD-set-other, set-at, drop-cons}
+use lib.Dec.{ltb, eqb}
+use borrow.Author.Tests.{ltb-true, lt-ltb, le-ltb, eq-eqb, ne-eqb}
+use Rattle.model.specs.Sets.{bit, tab, memb, upto}
+use Rattle.model.proofs.Booleans.{bool-ext}
+
+pub length-tab : (n : ℕ) (S : ℕ → Bool) → length (tab n S) ≡ n
+unfolding tab
+length-tab zero S = refl
+length-tab (suc n) S = ap suc (length-tab n (λ k. S (suc k)))
+
+pub getD-tab : (n : ℕ) (S : ℕ → Bool) (i : ℕ) → i < n → getD (tab n S) i 0 ≡ bit (S i)
+unfolding tab
+getD-tab zero S i l = absurd (not-suc-le-zero l)
+getD-tab (suc n) S zero l = refl
+getD-tab (suc n) S (suc i) l = getD-tab n (λ k. S (suc k)) i (le-of-suc-le-suc l)
+
+pub tab-of : (n : ℕ) (S : ℕ → Bool) (l : List ℕ) → length l ≡ n → ((i : ℕ) → i < n → getD l i 0 ≡ bit (S i)) → l ≡ tab n S
+tab-of n S l e h =
+    ext-getD 0 l (tab n S) (e ∙ sym (length-tab n S)) (λ i k. let m : i < n = omega arith in h i m ∙ sym (getD-tab n S i m))
+
+pub tab-cong : (n : ℕ) (S R : ℕ → Bool) → ((i : ℕ) → i < n → S i ≡ R i) → tab n S ≡ tab n R
+tab-cong n S R h = tab-of n R (tab n S) (length-tab n S) (λ i l. getD-tab n S i l ∙ ap bit (h i l))
+
+not-zero : (b : Bool) → not (eqb (bit b) 0) ≡ b
+not-zero true = refl
+not-zero false = refl
+
+pub memb-tab : (n : ℕ) (S : ℕ → Bool) (i : ℕ) → i < n → memb (tab n S) i ≡ S i
+unfolding memb
+memb-tab n S i l = rw (getD-tab n S i l) (not-zero (S i))
+
+-- a loop that fills a set from the front
+
+module _ (n : ℕ) (S : ℕ → Bool) where
+  pub fill-start : replicate n 0 ≡ tab n (upto 0 S)
+  unfolding upto
+  fill-start = tab-of n (λ k. ltb k 0 && S k) (replicate n 0) (length-replicate n 0)
+      (λ i l. getD-replicate n i 0 0 l ∙ rw (le-ltb i 0 (omega arith)))
+
+  same-or : (i k : ℕ) → (k ≡ i → ⊥) → ltb k i ≡ ltb k (i + 1)
+  same-or i k ne = bool-ext (ltb k i) (ltb k (i + 1)) (λ p. lt-ltb k (i + 1) (let q : k < i = ltb-true k i p in omega arith))
+      (λ p. lt-ltb k i (let q : k < i + 1 = ltb-true k (i + 1) p in omega arith))
+
+  -- S i is b, and the bytes are stored at i
+  pub fill-more : (i : ℕ) (b : Bool) → i < n → S i ≡ b → set (tab n (upto i S)) i (bit b) ≡ tab n (upto (i + 1) S)
+  unfolding upto
+  fill-more i b l e = tab-of n (λ k. ltb k (i + 1) && S k) (set (tab n (λ k. ltb k i && S k)) i (bit b))
+      (length-set (tab n (λ k. ltb k i && S k)) i (bit b) ∙ length-tab n (λ k. ltb k i && S k)) at
+    where
+      at : (k : ℕ) → k < n → getD (set (tab n (λ k. ltb k i && S k)) i (bit b)) k 0 ≡ bit (ltb k (i + 1) && S k)
+      at k h = go (native.Mathlib.Decide.ℕ-discrete k i)
+        where
+          go : Dec (k ≡ i) → getD (set (tab n (λ k. ltb k i && S k)) i (bit b)) k 0 ≡ bit (ltb k (i + 1) && S k)
+          go (yes p) = rw (p, getD-set-same (tab n (λ k. ltb k i && S k)) i (bit b) 0 (rw (length-tab n (λ k. ltb k i && S k)) l), lt-ltb i (i + 1) (omega arith), e)
+          go (no p) = getD-set-other (tab n (λ k. ltb k i && S k)) i k (bit b) 0 p ∙ getD-tab n (λ k. ltb k i && S k) k h ∙ rw (same-or i k p)
+
+  -- S i is false, and nothing is stored
+  pub fill-skip : (i : ℕ) → S i ≡ false → tab n (upto i S) ≡ tab n (upto (i + 1) S)
+  unfolding upto
+  fill-skip i e = tab-cong n (λ k. ltb k i && S k) (λ k. ltb k (i + 1) && S k) at
+    where
+      at : (k : ℕ) → k < n → (ltb k i && S k) ≡ (ltb k (i + 1) && S k)
+      at k h = go (native.Mathlib.Decide.ℕ-discrete k i)
+        where
+          go : Dec (k ≡ i) → (ltb k i && S k) ≡ (ltb k (i + 1) && S k)
+          go (yes p) = rw (p, e, and-comm (ltb i i) false, and-comm (ltb i (i + 1)) false)
+          go (no p) = rw (same-or i k p)
+
+  pub fill-end : tab n (upto n S) ≡ tab n S
+  unfolding upto
+  fill-end = tab-cong n (λ k. ltb k n && S k) S (λ k l. rw (lt-ltb k n l))
+
+-- the same, for a list that is known to hold the part, and a value that is known to be the bit
+pub fill-store : (n : ℕ) (S : ℕ → Bool) (r : List ℕ) (i v : ℕ) → r ≡ tab n (upto i S) → v ≡ bit (S i) → i < n → set r i v ≡ tab n (upto (i + 1) S)
+fill-store n S r i v p q l = rw (p, q) (fill-more n S i (S i) l refl)
+
+pub fill-none : (n : ℕ) (S : ℕ → Bool) (r : List ℕ) (i : ℕ) → r ≡ tab n (upto i S) → S i ≡ false → r ≡ tab n (upto (i + 1) S)
+fill-none n S r i p q = p ∙ fill-skip n S i q
+
+pub fill-done : (n : ℕ) (S : ℕ → Bool) (r : List ℕ) (i m : ℕ) → r ≡ tab n (upto i S) → i ≤ m → m ≤ i → r ≡ tab n (upto m S)
+fill-done n S r i m p l h = p ∙ ap (λ (k : ℕ). tab n (upto k S)) (omega arith)
+
+pub fill-whole : (n : ℕ) (S : ℕ → Bool) (r : List ℕ) (i : ℕ) → r ≡ tab n (upto i S) → i ≤ n → n ≤ i → r ≡ tab n S
+fill-whole n S r i p l h = fill-done n S r i n p l h ∙ fill-end n S
+
+-- one store in an empty set
+pub one-of : (n x : ℕ) → x < n → set (replicate n 0) x 1 ≡ tab n (λ k. eqb k x)
+one-of n x l = tab-of n (λ k. eqb k x) (set (replicate n 0) x 1) (length-set (replicate n 0) x 1 ∙ length-replicate n 0) at
+  where
+    at : (k : ℕ) → k < n → getD (set (replicate n 0) x 1) k 0 ≡ bit (eqb k x)
+    at k h = go (native.Mathlib.Decide.ℕ-discrete k x)
+      where
+        go : Dec (k ≡ x) → getD (set (replicate n 0) x 1) k 0 ≡ bit (eqb k x)
+        go (yes p) = rw (eq-eqb k x p, p) (getD-set-same (replicate n 0) x 1 0 (rw (length-replicate {A = ℕ} n 0) l))
+        go (no p) = getD-set-other (replicate n 0) x k 1 0 p ∙ getD-replicate n k 0 0 h ∙ rw (ne-eqb k x p)
+
+pub memb-yes : (s : List ℕ) (x : ℕ) → (getD s x 0 ≡ 0 → ⊥) → memb s x ≡ true
+unfolding memb
+memb-yes s x h = rw (ne-eqb (getD s x 0) 0 h)
+
+pub memb-no : (s : List ℕ) (x : ℕ) → getD s x 0 ≡ 0 → memb s x ≡ false
+unfolding memb
+memb-no s x h = rw h
+
+-- one byte more at the end
+pub tab-snoc : (n : ℕ) (S : ℕ → Bool) → tab (suc n) S ≡ tab n S ++ (bit (S n) ∷ [])
+unfolding tab
+tab-snoc zero S = refl
+tab-snoc (suc n) S = ap (λ (l : List ℕ). bit (S zero) ∷ l) (tab-snoc n (λ k. S (suc k)))
+
+-- a loop that writes a set over the front of a list
+pub over-start : (S : ℕ → Bool) (d : List ℕ) → d ≡ tab 0 S ++ drop 0 d
+unfolding tab
+over-start S d = refl
+
+pub over-more : (S : ℕ → Bool) (d l : List ℕ) (i v : ℕ) → l ≡ tab i S ++ drop i d → v ≡ bit (S i) → i < length d → set l i v ≡ tab (i + 1) S ++ drop (i + 1) d
+over-more S d l i v p q h =
+    rw (p, q, add-one i, drop-cons d i 0 h, tab-snoc i S)
+    (set-at (tab i S) (getD d i 0) (drop (suc i) d) (bit (S i)) i (length-tab i S) ∙ sym (append-assoc (tab i S) (bit (S i) ∷ []) (drop (suc i) d)))
+
+pub length-over : (S : ℕ → Bool) (d l : List ℕ) (i : ℕ) → l ≡ tab i S ++ drop i d → i ≤ length d → length l ≡ length d
+length-over S d l i p h = rw (p, length-append (tab i S) (drop i d), length-tab i S, length-drop i d) (omega arith)
+
+pub over-done : (S : ℕ → Bool) (d l : List ℕ) (i n : ℕ) → l ≡ tab i S ++ drop i d → i ≤ n → n ≤ i → l ≡ tab n S ++ drop n d
+over-done S d l i n p a b = p ∙ ap (λ (k : ℕ). tab k S ++ drop k d) (let e : i ≡ n = omega arith in e)
+
+-- the front of 256 bytes
+pub tab-front : (n : ℕ) (S : ℕ → Bool) → n ≤ 256 → tab n (memb (tab 256 S)) ≡ tab n S
+tab-front n S h = tab-cong n (memb (tab 256 S)) S (λ i l. memb-tab 256 S i (omega arith))

@@ -1,0 +1,9 @@
+pub mod Booleans
+pub mod Exists
+pub mod Bytes
+pub mod Refusals
+pub mod Axes
+pub mod QueryTable
+pub mod Accepted
+pub mod Answers
+pub mod Starred

@@ -1,0 +1,36 @@
+-- What the checks secure, in the form in which inner functions ask for it. No service asks for any of this.
+use Prim.Native.Nat.{ℕ, suc, _<_, _≤_}
+use mathlib.Core.Path.{_≡_}
+use mathlib.Core.Bool.{true}
+use mathlib.Core.List.{List}
+use lib.ListN.{length, getD}
+use Rattle.model.specs.Tree.{Tree, treeOf, sizeOf}
+use Rattle.model.specs.Axes.{descendantOrSelf}
+use Rattle.model.specs.QueryTable.{entriesOf, kind, left, right}
+use Rattle.model.specs.Checks.{leftPath, leftExpr, rightPath, rightExpr, namesVariable}
+
+-- up to a node, every node's parent comes before it
+pub record Falling (t : Tree) (top : ℕ) : Type 0 where
+  pub falls : (x : ℕ) → 0 < x → x ≤ top → t .parent x < x
+
+-- a tree of 1 to 256 nodes whose nodes' parents come before them
+pub record Sound (t : Tree) : Type 0 where
+  pub some-node : 0 < t .size
+  pub at-most : t .size ≤ 256
+  pub falls : (x : ℕ) → 0 < x → x < t .size → t .parent x < x
+
+-- a sound tree in document order: a node's parent is the node before it, or an ancestor of that node
+pub record Ordered (t : Tree) : Type 0 where
+  pub sound : Sound t
+  pub rule : (y : ℕ) → suc y < t .size → descendantOrSelf t (t .parent (suc y)) y ≡ true
+
+-- a query table whose entries can be evaluated under an assignment to nodes of a tree
+pub record Evaluable (t q nodes : List ℕ) : Type 0 where
+  pub known : (e : ℕ) → e < entriesOf q → kind q e ≤ 12
+  pub axis : (e : ℕ) → e < entriesOf q → kind q e ≡ 0 → left q e ≤ 12
+  pub left-path : (e : ℕ) → e < entriesOf q → leftPath (kind q e) ≡ true → (left q e < e) × (kind q (left q e) < 8)
+  pub left-expr : (e : ℕ) → e < entriesOf q → leftExpr (kind q e) ≡ true → (left q e < e) × (8 ≤ kind q (left q e))
+  pub right-path : (e : ℕ) → e < entriesOf q → rightPath (kind q e) ≡ true → (right q e < e) × (kind q (right q e) < 8)
+  pub right-expr : (e : ℕ) → e < entriesOf q → rightExpr (kind q e) ≡ true → (right q e < e) × (8 ≤ kind q (right q e))
+  pub variable : (e : ℕ) → e < entriesOf q → namesVariable (kind q e) ≡ true → left q e < length nodes
+  pub node : (k : ℕ) → k < length nodes → getD nodes k 0 < sizeOf t

@@ -1,0 +1,88 @@
+-- The thirteen axes: 'y is on the axis from x'. Name tests, and the pairs of a step.
+use Prim.Native.Nat.{ℕ, zero, suc}
+use mathlib.Core.Bool.{Bool, true, false, not, _&&_, _||_}
+use mathlib.Core.List.{List, [], _∷_}
+use lib.ListN.{getD}
+use lib.Dec.{ltb, eqb}
+use Rattle.model.specs.Sets.{any}
+use Rattle.model.specs.Tree.{Tree}
+
+-- one to k steps up from y reach x; node 0 has no parent
+unfoldable pub climbs : Tree → ℕ → ℕ → ℕ → Bool
+climbs t zero x y = false
+climbs t (suc k) x y = ltb 0 y && (eqb (t .parent y) x || climbs t k x (t .parent y))
+
+abbrev pub self : Tree → ℕ → ℕ → Bool
+self t x y = eqb x y
+
+unfoldable pub child : Tree → ℕ → ℕ → Bool
+child t x y = ltb 0 y && eqb (t .parent y) x
+
+abbrev pub parent : Tree → ℕ → ℕ → Bool
+parent t x y = child t y x
+
+unfoldable pub followingSibling : Tree → ℕ → ℕ → Bool
+followingSibling t x y = ltb 0 x && (ltb x y && eqb (t .parent x) (t .parent y))
+
+abbrev pub precedingSibling : Tree → ℕ → ℕ → Bool
+precedingSibling t x y = followingSibling t y x
+
+-- the one next sibling: no sibling stands between
+unfoldable pub right : Tree → ℕ → ℕ → Bool
+right t x y = followingSibling t x y && not (any (t .size) (λ z. followingSibling t x z && followingSibling t z y))
+
+abbrev pub left : Tree → ℕ → ℕ → Bool
+left t x y = right t y x
+
+unfoldable pub descendant : Tree → ℕ → ℕ → Bool
+descendant t x y = climbs t (t .size) x y
+
+abbrev pub ancestor : Tree → ℕ → ℕ → Bool
+ancestor t x y = descendant t y x
+
+-- every later node that is no descendant
+unfoldable pub following : Tree → ℕ → ℕ → Bool
+following t x y = ltb x y && not (descendant t x y)
+
+-- every earlier node that is no ancestor
+unfoldable pub preceding : Tree → ℕ → ℕ → Bool
+preceding t x y = ltb y x && not (ancestor t x y)
+
+unfoldable pub descendantOrSelf : Tree → ℕ → ℕ → Bool
+descendantOrSelf t x y = self t x y || descendant t x y
+
+unfoldable pub ancestorOrSelf : Tree → ℕ → ℕ → Bool
+ancestorOrSelf t x y = self t x y || ancestor t x y
+
+-- no axis
+abbrev pub nowhere : ℕ → ℕ → Bool
+nowhere x y = false
+
+-- the axes by their codes, 0 to 12; each even one but 0 is the converse of the odd one before it (proofs/Axes.antt: axis-converse)
+unfoldable pub axis : Tree → ℕ → ℕ → ℕ → Bool
+axis t a =
+    getD
+    (self t
+    ∷ child t
+    ∷ parent t
+    ∷ right t
+    ∷ left t
+    ∷ descendant t
+    ∷ ancestor t
+    ∷ following t
+    ∷ preceding t
+    ∷ followingSibling t
+    ∷ precedingSibling t
+    ∷ descendantOrSelf t
+    ∷ ancestorOrSelf t
+    ∷ [])
+    a
+    nowhere
+
+-- the name test of a step (document 01: its test): 65535 is the star
+unfoldable pub passes : Tree → ℕ → ℕ → Bool
+passes t name y = eqb name 65535 || eqb (t .tag y) name
+
+-- the pairs of a step
+unfoldable pub steps : Tree → ℕ → ℕ → ℕ → ℕ → Bool
+steps t a name x y = axis t a x y && passes t name y

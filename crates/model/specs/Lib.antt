@@ -1,0 +1,13 @@
+pub mod Sets
+pub mod Tree
+pub mod Axes
+pub mod Syntax
+pub mod Meaning
+pub mod QueryTable
+pub mod Results
+pub mod Answers
+pub mod Pages
+pub mod Refusals
+pub mod Checks
+pub mod Warehouse
+pub mod Accepted

@@ -1,0 +1,38 @@
+-- Sets of nodes and relations between nodes, as Boolean tests, and the bytes that hold a set.
+use Prim.Native.Nat.{ℕ, zero, suc}
+use mathlib.Core.Bool.{Bool, true, false, not, _&&_, _||_}
+use mathlib.Core.List.{List, [], _∷_}
+use lib.ListN.{getD}
+use lib.Dec.{ltb, eqb}
+
+-- some number below n passes f: 'there is a node' (proofs/Exists.antt: any-iff)
+unfoldable pub any : ℕ → (ℕ → Bool) → Bool
+any zero f = false
+any (suc n) f = f n || any n f
+
+-- a test as a byte
+abbrev pub bit : Bool → ℕ
+bit true = 1
+bit false = 0
+
+-- the n bytes of a set (document 01: a set is n bytes, each 0 or 1)
+unfoldable pub tab : ℕ → (ℕ → Bool) → List ℕ
+tab zero S = []
+tab (suc n) S = bit (S zero) ∷ tab n (λ k. S (suc k))
+
+-- x is in the set that the bytes hold
+unfoldable pub memb : List ℕ → ℕ → Bool
+memb s x = not (eqb (getD s x 0) 0)
+
+-- the part of a set below n
+unfoldable pub upto : ℕ → (ℕ → Bool) → ℕ → Bool
+upto n S k = ltb k n && S k
+
+-- a relation, or its converse where the flag is set
+abbrev pub turn : Bool → (ℕ → ℕ → Bool) → ℕ → ℕ → Bool
+turn true R x y = R y x
+turn false R x y = R x y
+
+-- the image of a set under a relation among n nodes: y is in it exactly if some x of the set has (x, y)
+unfoldable pub image : ℕ → (ℕ → ℕ → Bool) → (ℕ → Bool) → ℕ → Bool
+image n R S = upto n (λ y. any n (λ x. S x && R x y))

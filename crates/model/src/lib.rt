@@ -1,0 +1,68 @@
+// The types that every layer shares. What a reader must believe of the engine is in specs/.
+ghost use mathlib.Core.Path.{_≡_};
+ghost use Prim.Native.Nat.{ℕ, _<_};
+ghost use Rattle.model.specs.Refusals.{reply, verdict};
+ghost use Rattle.model.specs.Checks.{roomChecks};
+
+// The reply to a call: 0 and 0, or the number and the place of a refusal.
+#[repr(C)]
+pub struct Reply {
+    pub number: u16,
+    pub place: u16,
+}
+
+// The reply to a page call: number and place, how many rows it wrote, and whether a later row exists.
+#[repr(C)]
+pub struct PageReply {
+    pub number: u16,
+    pub place: u16,
+    pub count: usize,
+    pub more: bool,
+}
+
+// Where a caller stands in the answers of a query (document 01: the walk): whether paging has begun, and the last row
+// given, as three node numbers. All zero is a fresh cursor.
+#[repr(C)]
+pub struct Cursor {
+    pub begun: bool,
+    pub first: u16,
+    pub second: u16,
+    pub third: u16,
+}
+
+// The four numbers of an entry of a query table.
+pub struct Entry {
+    pub kind: usize,
+    pub left: usize,
+    pub right: usize,
+    pub tag: usize,
+}
+
+// A number of a table as an index.
+pub fn wide(x: u16) -> usize
+    ensures { λ r. ⌜ (r ≡ x) × (r < 65536) ⌝ }
+{
+    x as usize
+}
+
+// The reply with a number and a place.
+pub fn reply_at(number: u16, place: usize) -> Reply
+    requires { ⌜ place < 65536 ⌝ }
+    ensures { λ r. ⌜ r ≡ reply number place ⌝ }
+{
+    Reply {
+        number: number,
+        place: place as u16,
+    }
+}
+
+// Refusal 20: a buffer has room for less than is needed.
+pub fn check_room(room: usize, needed: usize) -> Reply
+    ensures { λ r. ⌜ r ≡ verdict (roomChecks room needed) ⌝ }
+{
+    let short = room < needed;
+    if short {
+        return reply_at(20, 0);
+    }
+    reply_at(0, 0)
+}

@@ -1,0 +1,37 @@
+-- Laws of the checks that go node by node.
+use Prim.Native.Nat.{ℕ, _/_, _%_, _<_}
+use native.Mathlib.Omega.{arith}
+use mathlib.Core.Path.{_≡_, sym, ap, _∙_}
+use mathlib.Core.Bool.{Bool, false, not, _||_}
+use lib.Dec.{ltb, eqb}
+use borrow.Author.Tests.{ltb-false, eq-eqb, ne-eqb}
+use Rattle.model.specs.Sets.{any}
+use Rattle.model.specs.Tree.{Tree}
+use Rattle.model.specs.Checks.{badTreeLength, badParent, badTag}
+use Rattle.model.proofs.Booleans.{no-or}
+use Rattle.tree.specs.Checks.{nodeFails}
+
+-- check 6 is that of the parents, and 7 that of the tags
+
+parents : (k : ℕ) (t : Tree) → k ≡ 6 → nodeFails k t ≡ badParent t
+parents k t e = rw (eq-eqb k 6 e)
+
+tags : (k : ℕ) (t : Tree) → (k ≡ 6 → ⊥) → nodeFails k t ≡ badTag t
+tags k t e = rw (ne-eqb k 6 e)
+
+module _ (k : ℕ) (t : Tree) (x : ℕ) (b : Bool) where
+  pub parent-fails : k ≡ 6 → b ≡ badParent t x → b ≡ nodeFails k t x
+  parent-fails e f = f ∙ sym (ap (λ (g : ℕ → Bool). g x) (parents k t e))
+
+  pub tag-fails : (k ≡ 6 → ⊥) → b ≡ badTag t x → b ≡ nodeFails k t x
+  tag-fails e f = f ∙ sym (ap (λ (g : ℕ → Bool). g x) (tags k t e))
+
+pub parents-pass : (k : ℕ) (t : Tree) (x : ℕ) → k ≡ 6 → any x (nodeFails k t) ≡ false → any x (badParent t) ≡ false
+parents-pass k t x e h = ap (any x) (sym (parents k t e)) ∙ h
+
+-- the place of a node fits a reply, where the table is not too long
+pub place-fits : (l x : ℕ) (b : Bool) → x < l / 2 → b ≡ badTreeLength l → b ≡ false → x < 65536
+place-fits l x b n e h =
+    let (_, m) = no-or (eqb l 0) (not (eqb (l % 2) 0) || ltb 512 l) (sym e ∙ h) in
+    let (_, g) = no-or (not (eqb (l % 2) 0)) (ltb 512 l) m in
+    omega (arith, ltb-false 512 l g)

@@ -1,0 +1,126 @@
+// The check of a tree table (refusals 5 to 7), and the links that evaluation walks. Both take time linear in the table's length.
+ghost use mathlib.Core.Path.{_≡_};
+ghost use mathlib.Core.Bool.{false};
+ghost use Prim.Native.Nat.{_<_};
+ghost use Rattle.model.specs.Sets.{any};
+ghost use Rattle.model.specs.Tree.{treeOf, sizeOf};
+ghost use Rattle.model.specs.Axes.{descendantOrSelf};
+ghost use Rattle.model.specs.Refusals.{lowest, verdict};
+ghost use Rattle.model.specs.Checks.{badTreeLength, badParent, badTag, treeChecks};
+ghost use Rattle.model.specs.Accepted.{Falling, Sound};
+ghost use Rattle.tree.specs.Checks.{nodeFails};
+ghost use Rattle.tree.specs.Links.{PreviousSiblings};
+
+// Refusal 5: whether a table of l numbers has a bad length.
+fn bad_length(l: usize) -> bool
+    ensures { λ r. ⌜ r ≡ badTreeLength l ⌝ }
+{
+    (l == 0) | ((l % 2 != 0) | (512 < l))
+}
+
+// The parent of node x.
+fn parent(tree: &[u16], x: usize) -> usize
+    requires { ⌜ x < sizeOf (now tree) ⌝ }
+    ensures { λ r. ⌜ r ≡ treeOf (now (tree .entry)) .parent x ⌝ }
+{
+    model::wide(tree[2 * x])
+}
+
+// Whether y is x or a descendant of x. Up to y every parent comes before its node, so the climb from y stops at the first
+// node that is not above x. It takes a turn for each node that it leaves behind.
+fn is_descendant_or_self(tree: &[u16], x: usize, y: usize) -> bool
+    requires { ⌜ Falling (treeOf (now tree)) y × (y < sizeOf (now tree)) ⌝ }
+    ensures { λ r. ⌜ r ≡ descendantOrSelf (treeOf (now (tree .entry))) x y ⌝ }
+{
+    let mut z = y;
+    while x < z {
+        z = parent(tree, z);
+    }
+    z == x
+}
+
+// Refusal 6: whether node x has a bad parent, where no node before it has.
+fn is_bad_parent(tree: &[u16], x: usize) -> bool
+    requires { ⌜ (x < sizeOf (now tree)) × (any x (badParent (treeOf (now tree))) ≡ false) ⌝ }
+    ensures { λ r. ⌜ r ≡ badParent (treeOf (now (tree .entry))) x ⌝ }
+{
+    let p = parent(tree, x);
+    if x == 0 {
+        return p != 65535;
+    }
+    !is_descendant_or_self(tree, p, x - 1)
+}
+
+// Refusal 7: whether node x has a reserved tag.
+fn is_bad_tag(tree: &[u16], x: usize) -> bool
+    requires { ⌜ x < sizeOf (now tree) ⌝ }
+    ensures { λ r. ⌜ r ≡ badTag (treeOf (now (tree .entry))) x ⌝ }
+{
+    65533 < model::wide(tree[2 * x + 1])
+}
+
+// Whether node x fails the check of refusal k, 6 or 7, where no node before it does.
+fn is_bad(tree: &[u16], k: usize, x: usize) -> bool
+    requires { ⌜ (x < sizeOf (now tree)) × (any x (nodeFails k (treeOf (now tree))) ≡ false) ⌝ }
+    ensures { λ r. ⌜ r ≡ nodeFails k (treeOf (now (tree .entry))) x ⌝ }
+{
+    if k == 6 {
+        return is_bad_parent(tree, x);
+    }
+    is_bad_tag(tree, x)
+}
+
+// The lowest node that fails the check of refusal k, or the number of nodes. For the parents too the time is linear: the
+// climb from the node before x ends at x's parent, and what it leaves behind is no ancestor of x or of a later node, so each
+// node is left behind once in all. A climb that misses x's parent is the last.
+fn lowest_bad(tree: &[u16], k: usize) -> usize
+    ensures { λ r. ⌜ r ≡ lowest (sizeOf (now (tree .entry))) (nodeFails k (treeOf (now (tree .entry)))) ⌝ }
+{
+    let n = tree.len() / 2;
+    let mut x = 0;
+    while x < n {
+        if is_bad(tree, k, x) {
+            return x;
+        }
+        x += 1;
+    }
+    n
+}
+
+// The verdict on a tree table.
+pub fn check_tree(tree: &[u16]) -> model::Reply
+    ensures { λ r. ⌜ r ≡ verdict (treeChecks (now (tree .entry))) ⌝ }
+{
+    if bad_length(tree.len()) {
+        return model::reply_at(5, 0);
+    }
+    let n = tree.len() / 2;
+    let x = lowest_bad(tree, 6);
+    if x < n {
+        return model::reply_at(6, x);
+    }
+    let y = lowest_bad(tree, 7);
+    if y < n {
+        return model::reply_at(7, y);
+    }
+    model::reply_at(0, 0)
+}
+
+// Each node's previous sibling, or 65535 where it has none, where the table has the node's parent. A turn a node, which
+// takes the last child so far of the node's parent and becomes it.
+pub fn previous_siblings(tree: &[u16]) -> [u16; 512]
+    requires { ⌜ Sound (treeOf (now tree)) ⌝ }
+    ensures { λ r. ⌜ PreviousSiblings (treeOf (now (tree .entry))) (sizeOf (now (tree .entry))) r ⌝ }
+{
+    let n = tree.len() / 2;
+    let mut links = [65535u16; 512];
+    let mut last = [65535u16; 256];
+    let mut y = 1;
+    while y < n {
+        let p = parent(tree, y);
+        links[2 * y] = last[p];
+        last[p] = y as u16;
+        y += 1;
+    }
+    links
+}

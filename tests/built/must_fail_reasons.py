@@ -1,0 +1,25 @@
+#!/usr/bin/env python3
+"""rt ci tried every must-fail edit, and refused each because a fact fails. Where the prover first complains that a proof no
+longer fits the code, the edit only changed the code's shape, and shows nothing."""
+import glob, os, re, sys
+sys.dont_write_bytecode = True
+sys.path.insert(0, os.path.join(os.path.dirname(__file__), "..", "support"))
+from repository import ROOT, end, read
+
+# an error, or a note that has a place: the latter comes first for a function that is proved with no file
+COMPLAINT = re.compile(r"^(?:\S+: error: |note: \S+:\d+:\d+: )(.*)", re.M)
+UNFIT = re.compile(r"that can be named from here|expected type `tie\.Need-")
+
+problems = []
+for edit in sorted(glob.glob(os.path.join(ROOT, "crates", "*", "must-fail", "*.edit"))):
+    crate, label = edit.split(os.sep)[-3], os.path.basename(edit)[: -len(".edit")]
+    log = os.path.join("target", "must-fail", crate, label, ".log")
+    if not os.path.isfile(os.path.join(ROOT, log)):
+        problems.append("%s/%s: not tried, there is no %s" % (crate, label, log))
+        continue
+    first = COMPLAINT.search(read(log))
+    if not first:
+        problems.append("%s/%s: %s has no complaint" % (crate, label, log))
+    elif UNFIT.search(first[1]):
+        problems.append("%s/%s: the proof no longer fits the code: %s" % (crate, label, first[1][:300]))
+end(problems)

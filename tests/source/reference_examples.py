@@ -1,0 +1,42 @@
+#!/usr/bin/env python3
+"""The examples of docs/REFERENCE.md are right by tests/support/reference.py: what stands on each axis, the job file byte for
+byte, and what the program prints for it."""
+import itertools, os, re, struct, sys
+sys.dont_write_bytecode = True
+sys.path.insert(0, os.path.join(os.path.dirname(__file__), "..", "support"))
+from reference import Tree, nodes_of, relation
+from repository import end, read
+
+text = read("docs/REFERENCE.md")
+
+
+def block(heading, number):
+    """A fenced block of a section."""
+    return text.partition("\n## %s\n" % heading)[2].split("```")[2 * number + 1]
+
+
+def decoded(dump):
+    """The tree, the query and the number of variables of a job file written as hexadecimal bytes, with words behind them."""
+    job = bytes(int(b, 16) for line in dump.split("\n") for b in re.findall(r"\b[0-9a-f]{2}\b", line[:76]))
+    tree, tree_count, query, query_count, variables, magic = struct.unpack("<6H", job[-12:])
+    part = lambda distance, count: list(struct.unpack_from("<%dH" % count, job, len(job) - distance))
+    return part(tree, tree_count), part(query, query_count), variables, magic
+
+
+table, query, variables, magic = decoded(block("Job files", 0))
+tree, problems = Tree(table), []
+drawn = [int(w) for w in re.search(r"table ((?:\d+ +)+\d+)$", block("The tree table", 0), re.M)[1].split()]
+if drawn != table or magic != 20564:
+    problems.append("the job file's tree is not the one drawn, or its magic number is wrong")
+axes = re.findall(r"^\| (\d+) \| `[\w-]+` \|[^|]*\|([\d ]*)\|([\d ]*)\|$", text, re.M)
+if [int(code) for code, _, _ in axes] != list(range(13)):
+    problems.append("the table of axes does not have the codes 0 to 12 in turn")
+for code, *columns in axes:
+    for start, column in zip((1, 4), columns):
+        if [int(y) for y in column.split()] != nodes_of(tree.axes[int(code)][start]):
+            problems.append("axis %s from node %d is not %s" % (code, start, column.strip()))
+answers = [row for row in itertools.product(range(tree.n), repeat=variables) if any(relation(tree, query, row))]
+printed = "".join("%s\n" % " ".join(map(str, row)) for row in answers) + "end %d\n" % len(answers)
+if block("Output of the program", 0).lstrip("\n") != printed:
+    problems.append("for the job file the program prints\n%s" % printed)
+end(problems)

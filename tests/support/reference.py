@@ -1,0 +1,100 @@
+"""Core XPath over tree tables and query tables, written apart from the engine: each kind of entry as a relation, straight
+from its definition. A relation among n nodes is a list of n whole numbers; bit y of number x says that (x, y) is a pair."""
+
+
+def nodes_of(bits):
+    """The nodes of a set, lowest first."""
+    return [k for k in range(bits.bit_length()) if bits >> k & 1]
+
+
+def converse(r):
+    return [sum(1 << x for x in range(len(r)) if r[x] >> y & 1) for y in range(len(r))]
+
+
+def composed(p, q):
+    rows = []
+    for row in p:
+        union = 0
+        for z in nodes_of(row):
+            union |= q[z]
+        rows.append(union)
+    return rows
+
+
+class Tree:
+    def __init__(self, table):
+        self.parent, self.tag = table[0::2], table[1::2]
+        self.n = n = len(self.tag)
+        self.all = (1 << n) - 1
+        own = [1 << x for x in range(n)]
+        child, below, sibling, right = ([0] * n for _ in range(4))
+        for y in range(1, n):
+            child[self.parent[y]] |= 1 << y
+            x = y
+            while x:
+                x = self.parent[x]
+                below[x] |= 1 << y
+            before = [x for x in range(1, y) if self.parent[x] == self.parent[y]]
+            for x in before:
+                sibling[x] |= 1 << y
+            if before:
+                right[before[-1]] |= 1 << y
+        following = [sum(1 << y for y in range(x + 1, n) if not below[x] >> y & 1) for x in range(n)]
+        with_self = [a | b for a, b in zip(own, below)]
+        self.axes = [own]
+        for odd in child, right, below, following, sibling, with_self:
+            self.axes += [odd, converse(odd)]
+
+    def passing(self, test):
+        return self.all if test == 65535 else sum(1 << y for y in range(self.n) if self.tag[y] == test)
+
+
+def evaluated(tree, query, assignment):
+    """Every entry of a query table: a relation for a path, a set for a node expression."""
+    n, values = tree.n, []
+    for e in range(0, len(query), 4):
+        kind, left, right, tag = query[e : e + 4]
+        a = values[left] if left < len(values) else None
+        b = values[right] if right < len(values) else None
+        if kind == 0:
+            passing = tree.passing(tag)
+            value = [row & passing for row in tree.axes[left]]
+        elif kind == 1:
+            value = composed(a, b)
+        elif kind == 2:
+            value = [p | q for p, q in zip(a, b)]
+        elif kind == 3:
+            value = [p & q for p, q in zip(a, b)]
+        elif kind == 4:
+            value = [p & ~q for p, q in zip(a, b)]
+        elif kind == 5:
+            value = [p & b for p in a]
+        elif kind == 6:
+            value = [1 << assignment[left]] * n
+        elif kind == 7:
+            value = [a[0]] * n
+        elif kind == 8:
+            value = sum(1 << x for x in range(n) if a[x])
+        elif kind == 9:
+            value = tree.all & ~a
+        elif kind == 10:
+            value = a & b
+        elif kind == 11:
+            value = a | b
+        else:
+            value = 1 << assignment[left]
+        values.append(value)
+    return values
+
+
+def relation(tree, query, assignment=()):
+    """The pairs of the whole query."""
+    return evaluated(tree, query, assignment)[-1]
+
+
+def image(pairs, start):
+    """The set that a set reaches by a relation."""
+    reached = 0
+    for x in nodes_of(start):
+        reached |= pairs[x]
+    return reached
