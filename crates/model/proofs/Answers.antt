@@ -109,7 +109,7 @@ module _ (f : Row → Bool) where
   kept-holds r [] h = absurd h
   kept-holds r (x ∷ xs) h = cons-holds (f x) r x (keep f xs) refl (kept-holds r xs) h
 
-  kept-in : (r : Row) (xs : List Row) → In r (keep f xs) → In r xs
+  pub kept-in : (r : Row) (xs : List Row) → In r (keep f xs) → In r xs
   kept-in r [] h = h
   kept-in r (x ∷ xs) h = cons-from (f x) r x (keep f xs) xs (kept-in r xs) h
 
@@ -189,12 +189,12 @@ long-out n (suc k) r h =
     let s = split n 0 (allRows n k) r h in
     ap length (s .same) ∙ ap suc (long-out n k (s .rest) (s .there))
 
-below-out : (n k : ℕ) (r : Row) → In r (allRows n k) → Below n r
-below-out n zero r (_⊎_.inl h) = rw h (λ i l. absurd (not-suc-le-zero l))
-below-out n zero r (_⊎_.inr h) = absurd h
-below-out n (suc k) r h =
+pub all-below : (n k : ℕ) (r : Row) → In r (allRows n k) → Below n r
+all-below n zero r (_⊎_.inl h) = rw h (λ i l. absurd (not-suc-le-zero l))
+all-below n zero r (_⊎_.inr h) = absurd h
+all-below n (suc k) r h =
     let s = split n 0 (allRows n k) r h in
-    rw (s .same) (below-more n (s .num) (s .rest) (omega (arith, s .high)) (below-out n k (s .rest) (s .there)))
+    rw (s .same) (below-more n (s .num) (s .rest) (omega (arith, s .high)) (all-below n k (s .rest) (s .there)))
 
 all-in : (n k : ℕ) (r : Row) → length r ≡ k → Below n r → In r (allRows n k)
 all-in n zero [] e h = _⊎_.inl refl
@@ -245,7 +245,7 @@ module _ (t q : List ℕ) (k : ℕ) where
   answers-member r = (
     λ h. (
       answers-wide r h,
-      below-out (sizeOf t) k r (kept-in (satisfied t q) r (allRows (sizeOf t) k) h),
+      all-below (sizeOf t) k r (kept-in (satisfied t q) r (allRows (sizeOf t) k) h),
       kept-holds (satisfied t q) r (allRows (sizeOf t) k) h,
     ),
     λ h. keeps (satisfied t q) r (allRows (sizeOf t) k) (all-in (sizeOf t) k r (h .0) (h .1)) (h .2),

@@ -1,0 +1,11 @@
+// The test program. It runs the checks that its standard input lists, one to a line, and writes how many comparisons each
+// part made and how many of them failed; a comparison that fails has a line of its own. The input says what a line holds.
+mod line;
+mod run;
+mod tally;
+
+fn main() {
+    let mut text = io::large_buffer();
+    let length = io::read_full(0, &mut text);
+    run::run_all(&text[..length]);
+}

@@ -1,0 +1,96 @@
+// What was compared: the replies by their number (0 to 22), and sums.
+
+// The line of the input, and how many comparisons there were and failed, in all and in this part.
+const LINE: usize = 23;
+
+const COMPARED: usize = 24;
+
+const FAILED: usize = 25;
+
+const COMPARED_HERE: usize = 26;
+
+const FAILED_HERE: usize = 27;
+
+pub fn add(tally: &mut [u64; 32], at: usize, more: u64) {
+    if at < 32 {
+        let sum = std::num::wrapping_add_u64(tally[at], more);
+        tally[at] = sum;
+    }
+}
+
+fn clear(tally: &mut [u64; 32], at: usize) {
+    if at < 32 {
+        tally[at] = 0;
+    }
+}
+
+fn sum_at(tally: &[u64; 32], at: usize) -> u64 {
+    if at < 32 {
+        return tally[at];
+    }
+    0
+}
+
+pub fn next_line(tally: &mut [u64; 32]) {
+    add(tally, LINE, 1);
+}
+
+fn show_number(number: u64, then: &[u8]) {
+    io::print_decimal(1, number);
+    io::write_all(1, then);
+}
+
+// One comparison, and whether it held.
+pub fn expect(tally: &mut [u64; 32], holds: bool) {
+    add(tally, COMPARED, 1);
+    add(tally, COMPARED_HERE, 1);
+    if holds {
+        return;
+    }
+    add(tally, FAILED, 1);
+    add(tally, FAILED_HERE, 1);
+    io::write_all(1, b"line ");
+    show_number(sum_at(tally, LINE), b": comparison ");
+    show_number(sum_at(tally, COMPARED_HERE), b" of this part failed\n");
+}
+
+// A reply compared with the number and the place that are due.
+pub fn expect_reply(tally: &mut [u64; 32], got: model::Reply, number: usize, place: usize) {
+    let due = model::wide(got.number);
+    add(tally, due, 1);
+    expect(tally, (due == number) & (model::wide(got.place) == place));
+}
+
+// The line for the part that ends here.
+pub fn show_part(tally: &mut [u64; 32]) {
+    show_number(sum_at(tally, COMPARED_HERE), b" compared, ");
+    show_number(sum_at(tally, FAILED_HERE), b" failed\n");
+    clear(tally, COMPARED_HERE);
+    clear(tally, FAILED_HERE);
+}
+
+// A line for the replies with a number, if there were any.
+fn show_reply(tally: &[u64; 32], number: usize) {
+    let count = sum_at(tally, number);
+    if count == 0 {
+        return;
+    }
+    io::write_all(1, b"replies ");
+    show_number(number as u64, b": ");
+    show_number(count, b"\n");
+}
+
+fn show_replies(tally: &[u64; 32]) {
+    let mut number = 0;
+    while number < 23 {
+        show_reply(tally, number);
+        number += 1;
+    }
+}
+
+pub fn show_all(tally: &[u64; 32]) {
+    show_replies(tally);
+    io::write_all(1, b"in all: ");
+    show_number(sum_at(tally, COMPARED), b" compared, ");
+    show_number(sum_at(tally, FAILED), b" failed\n");
+}
