@@ -1,0 +1,4 @@
+pub mod Closure
+pub mod Axes
+pub mod Loops
+pub mod Images

@@ -1,0 +1,70 @@
+use Prim.Native.Nat.{_-_, _≤_}
+use native.Mathlib.Omega.{arith}
+use mathlib.Core.Path.{_≡_, _∙_}
+use mathlib.Core.Logic.{⊎-elim}
+use mathlib.Core.Bool.{true}
+use borrow.Author.Needs.{needs}
+use Rattle.model.specs.Sets.{tab, memb, turn}
+use Rattle.tree.specs.Links.{links}
+use Rattle.steps.specs.Moves.{hop}
+use Rattle.steps.proofs.Loops.{reach, scatter-start, scatter-store, scatter-skip, scatter-done, sends-below}
+use Rattle.steps.proofs.scatter.Statement.{statement}
+use Rattle.steps.proofs.scatter.Tie as tie
+
+abbrev Inv-loop : tie.InvT-loop
+Inv-loop link n from r₀ y₀ r y = (y ≤ n) × (r ≡ tab 256 (reach y (turn true (hop (links link))) (memb from)))
+
+abbrev μ-loop : tie.MeasureT-loop
+μ-loop link n from r₀ y₀ r y = n - y
+
+loop-holds : tie.Need-loop-holds Inv-loop μ-loop
+loop-holds c = (omega arith, scatter-start _ _)
+
+mul-wide : tie.Need-mul-wide Inv-loop μ-loop
+mul-wide c = omega arith
+
+mul-wide-2 : tie.Need-mul-wide-2 Inv-loop μ-loop
+mul-wide-2 c = omega arith
+
+shared-slice-read-wide : tie.Need-shared-slice-read-wide Inv-loop μ-loop
+shared-slice-read-wide c = omega arith
+
+wide-requires : tie.Need-wide-requires Inv-loop μ-loop
+wide-requires c κs = search needs
+
+array-read-sends : tie.Need-array-read-sends Inv-loop μ-loop
+array-read-sends c = omega arith
+
+array-write-r : tie.Need-array-write-r Inv-loop μ-loop
+array-write-r c = sends-below _ _ _ _ (c .if1 .taken) (omega arith)
+
+add-y : tie.Need-add-y Inv-loop μ-loop
+add-y c = omega arith
+
+loop-less : tie.Need-loop-less Inv-loop μ-loop
+loop-less c = omega arith
+
+loop-again : tie.Need-loop-again Inv-loop μ-loop
+unfolding memb
+loop-again c = (omega arith, ⊎-elim (λ w. w .1 ∙ scatter-store _ _ _ _ _ (c .before .before .before .before .loop .inv .1) (c .before .wide .ensures .0) (w .0 .taken) (sends-below _ _ _ _ (w .0 .taken) (omega arith))) (λ w. w .1 ∙ scatter-skip _ _ _ _ _ (c .before .before .before .before .loop .inv .1) (c .before .wide .ensures .0) (w .0 .left)) (c .if1 .came))
+
+returns : tie.Need-returns Inv-loop μ-loop
+returns c = scatter-done _ _ _ _ _ (c .before .loop .inv .1) (omega arith) (omega arith)
+
+pub scatter-spec : {M : Type 1} → statement M
+scatter-spec =
+    tie.close
+    (tie.spec
+    Inv-loop
+    μ-loop
+    loop-holds
+    mul-wide
+    mul-wide-2
+    shared-slice-read-wide
+    wide-requires
+    array-read-sends
+    array-write-r
+    add-y
+    loop-less
+    loop-again
+    returns)

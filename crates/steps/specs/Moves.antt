@@ -1,0 +1,47 @@
+-- Moves along links: for a node y a number L y, which is y's link where it is lower than y, and no link else.
+use Prim.Native.Nat.{ℕ, zero, suc}
+use mathlib.Core.Bool.{Bool, false, _&&_, _||_}
+use mathlib.Core.List.{List, [], _∷_}
+use lib.ListN.{getD}
+use lib.Dec.{ltb, eqb}
+use Rattle.model.specs.Tree.{Tree, treeOf, sizeOf}
+use Rattle.model.specs.Axes.{self, child, right, descendant, following, followingSibling, descendantOrSelf, nowhere}
+use Rattle.model.specs.Accepted.{Ordered}
+use Rattle.tree.specs.Links.{PreviousSiblings}
+
+-- x is y's link
+unfoldable pub hop : (ℕ → ℕ) → ℕ → ℕ → Bool
+hop L x y = ltb (L y) y && eqb (L y) x
+
+-- one to k hops from y reach x
+unfoldable pub hops : (ℕ → ℕ) → ℕ → ℕ → ℕ → Bool
+hops L zero x y = false
+hops L (suc k) x y = ltb (L y) y && (eqb (L y) x || hops L k x (L y))
+
+-- one hop or more; each leads to a lower number, so that y hops are enough
+unfoldable pub plus : (ℕ → ℕ) → ℕ → ℕ → Bool
+plus L x y = hops L y x y
+
+-- no hop, one or more
+unfoldable pub star : (ℕ → ℕ) → ℕ → ℕ → Bool
+star L x y = eqb x y || plus L x y
+
+-- the forward axes by half of their code, rounded up; each axis is one of them or the converse of one (proofs/Axes.antt: axis-turn)
+unfoldable pub forward : Tree → ℕ → ℕ → ℕ → Bool
+forward t h =
+    getD
+    (self t
+    ∷ child t
+    ∷ right t
+    ∷ descendant t
+    ∷ following t
+    ∷ followingSibling t
+    ∷ descendantOrSelf t
+    ∷ [])
+    h
+    nowhere
+
+-- a tree table in document order, and the previous siblings of its nodes
+pub record Linked (t prev : List ℕ) : Type 0 where
+  pub tree : Ordered (treeOf t)
+  pub siblings : PreviousSiblings (treeOf t) (sizeOf t) prev

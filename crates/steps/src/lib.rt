@@ -1,0 +1,219 @@
+// The image of a node set under a step, for every axis by a fixed number of passes along two links: the parent, and the
+// previous sibling. A link is a lower number than its node's, so that one pass serves for any number of hops too.
+// Every function here is O(n).
+ghost use mathlib.Core.Path.{_≡_};
+ghost use mathlib.Core.Bool.{true};
+ghost use Prim.Native.Nat.{ℕ, _*_, _≤_, _<_};
+ghost use lib.ListN.{length};
+ghost use lib.Dec.{eqb};
+ghost use Rattle.model.specs.Sets.{tab, memb, upto, turn, image};
+ghost use Rattle.model.specs.Tree.{treeOf, sizeOf};
+ghost use Rattle.model.specs.Axes.{following, axis, passes, steps};
+ghost use Rattle.tree.specs.Links.{links};
+ghost use Rattle.steps.specs.Moves.{hop, plus, star, forward, Linked};
+
+// From each node to those whose link it is. One pass.
+fn gather(link: &[u16], n: usize, from: [u8; 256]) -> [u8; 256]
+    requires { ⌜ (n ≤ 256) × (2 * n ≤ length (now link)) ⌝ }
+    ensures { λ r. ⌜ r ≡ tab 256 (image n (hop (links (now (link .entry)))) (memb from)) ⌝ }
+{
+    let mut r = [0u8; 256];
+    let mut y = 0;
+    while y < n {
+        let p = model::wide(link[2 * y]);
+        if p < y {
+            r[y] = sets::byte(from[p] != 0);
+        }
+        y += 1;
+    }
+    r
+}
+
+// The same by one hop or more. One pass: the byte of the link is final before it is read.
+fn gather_closed(link: &[u16], n: usize, from: [u8; 256]) -> [u8; 256]
+    requires { ⌜ (n ≤ 256) × (2 * n ≤ length (now link)) ⌝ }
+    ensures { λ r. ⌜ r ≡ tab 256 (image n (plus (links (now (link .entry)))) (memb from)) ⌝ }
+{
+    let mut r = [0u8; 256];
+    let mut y = 0;
+    while y < n {
+        let p = model::wide(link[2 * y]);
+        if p < y {
+            r[y] = sets::byte((from[p] != 0) | (r[p] != 0));
+        }
+        y += 1;
+    }
+    r
+}
+
+// From each node to its link. One pass.
+fn scatter(link: &[u16], n: usize, from: [u8; 256]) -> [u8; 256]
+    requires { ⌜ (n ≤ 256) × (2 * n ≤ length (now link)) ⌝ }
+    ensures { λ r. ⌜ r ≡ tab 256 (image n (turn true (hop (links (now (link .entry))))) (memb from)) ⌝ }
+{
+    let mut r = [0u8; 256];
+    let mut y = 0;
+    while y < n {
+        let p = model::wide(link[2 * y]);
+        let sends = (p < y) & (from[y] != 0);
+        if sends {
+            r[p] = 1;
+        }
+        y += 1;
+    }
+    r
+}
+
+// The same by one hop or more. One pass from the last node down: a node's byte is final before its link is set.
+fn scatter_closed(link: &[u16], n: usize, from: [u8; 256]) -> [u8; 256]
+    requires { ⌜ (n ≤ 256) × (2 * n ≤ length (now link)) ⌝ }
+    ensures { λ r. ⌜ r ≡ tab 256 (image n (turn true (plus (links (now (link .entry))))) (memb from)) ⌝ }
+{
+    let mut r = [0u8; 256];
+    let mut i = n;
+    while 0 < i {
+        let y = i - 1;
+        let p = model::wide(link[2 * y]);
+        let sends = (p < y) & ((from[y] != 0) | (r[y] != 0));
+        if sends {
+            r[p] = 1;
+        }
+        i = y;
+    }
+    r
+}
+
+// One hop along a link, away from node 0, or back.
+fn hop_image(link: &[u16], n: usize, back: bool, from: [u8; 256]) -> [u8; 256]
+    requires { ⌜ (n ≤ 256) × (2 * n ≤ length (now link)) ⌝ }
+    ensures { λ r. ⌜ r ≡ tab 256 (image n (turn back (hop (links (now (link .entry))))) (memb from)) ⌝ }
+{
+    if back {
+        return scatter(link, n, from);
+    }
+    gather(link, n, from)
+}
+
+// One hop or more.
+fn plus_image(link: &[u16], n: usize, back: bool, from: [u8; 256]) -> [u8; 256]
+    requires { ⌜ (n ≤ 256) × (2 * n ≤ length (now link)) ⌝ }
+    ensures { λ r. ⌜ r ≡ tab 256 (image n (turn back (plus (links (now (link .entry))))) (memb from)) ⌝ }
+{
+    if back {
+        return scatter_closed(link, n, from);
+    }
+    gather_closed(link, n, from)
+}
+
+// The set itself, as far as it is below n.
+fn self_image(n: usize, back: bool, from: [u8; 256]) -> [u8; 256]
+    requires { ⌜ n ≤ 256 ⌝ }
+    ensures { λ r. ⌜ r ≡ tab 256 (image n (turn back eqb) (memb from)) ⌝ }
+{
+    let all = sets::full(n);
+    sets::combined(sets::INTERSECTION, all, from)
+}
+
+// No hop, one or more.
+fn star_image(link: &[u16], n: usize, back: bool, from: [u8; 256]) -> [u8; 256]
+    requires { ⌜ (n ≤ 256) × (2 * n ≤ length (now link)) ⌝ }
+    ensures { λ r. ⌜ r ≡ tab 256 (image n (turn back (star (links (now (link .entry))))) (memb from)) ⌝ }
+{
+    let a = self_image(n, back, from);
+    let b = plus_image(link, n, back, from);
+    sets::combined(sets::UNION, a, b)
+}
+
+// Following, or its converse, preceding: up or stay, along the siblings, down or stay. Three passes.
+fn following_image(tree: &[u16], prev: &[u16], back: bool, from: [u8; 256]) -> [u8; 256]
+    requires { ⌜ Linked (now tree) (now prev) ⌝ }
+    ensures { λ r. ⌜ r ≡ tab 256 (image (sizeOf (now (tree .entry))) (turn back (following (treeOf (now (tree .entry))))) (memb from)) ⌝ }
+{
+    let n = tree.len() / 2;
+    let a = star_image(tree, n, true, from);
+    let b = plus_image(prev, n, back, a);
+    star_image(tree, n, false, b)
+}
+
+// A forward axis, by half of its code rounded up, or its converse.
+fn forward_image(tree: &[u16], prev: &[u16], h: usize, back: bool, from: [u8; 256]) -> [u8; 256]
+    requires { ⌜ Linked (now tree) (now prev) × (h ≤ 6) ⌝ }
+    ensures { λ r. ⌜ r ≡ tab 256 (image (sizeOf (now (tree .entry))) (turn back (forward (treeOf (now (tree .entry))) h)) (memb from)) ⌝ }
+{
+    let n = tree.len() / 2;
+    if h == 0 {
+        return self_image(n, back, from);
+    }
+    if h == 1 {
+        return hop_image(tree, n, back, from);
+    }
+    if h == 2 {
+        return hop_image(prev, n, back, from);
+    }
+    if h == 3 {
+        return plus_image(tree, n, back, from);
+    }
+    if h == 4 {
+        return following_image(tree, prev, back, from);
+    }
+    if h == 5 {
+        return plus_image(prev, n, back, from);
+    }
+    star_image(tree, n, back, from)
+}
+
+// An axis by its code, or its converse: an even code is the converse of the forward axis beside it.
+fn axis_image(tree: &[u16], prev: &[u16], a: usize, back: bool, from: [u8; 256]) -> [u8; 256]
+    requires { ⌜ Linked (now tree) (now prev) × (a ≤ 12) ⌝ }
+    ensures { λ r. ⌜ r ≡ tab 256 (image (sizeOf (now (tree .entry))) (turn back (axis (treeOf (now (tree .entry))) a)) (memb from)) ⌝ }
+{
+    let h = (a + 1) / 2;
+    if a % 2 == 0 {
+        return forward_image(tree, prev, h, !back, from);
+    }
+    forward_image(tree, prev, h, back, from)
+}
+
+// Node y passes the name test.
+fn passes_name(tree: &[u16], name: usize, y: usize) -> bool
+    requires { ⌜ y < sizeOf (now tree) ⌝ }
+    ensures { λ r. ⌜ r ≡ passes (treeOf (now (tree .entry))) name y ⌝ }
+{
+    (name == 65535) | (model::wide(tree[2 * y + 1]) == name)
+}
+
+// The nodes that pass the name test. One pass.
+fn named(tree: &[u16], name: usize) -> [u8; 256]
+    requires { ⌜ sizeOf (now tree) ≤ 256 ⌝ }
+    ensures { λ r. ⌜ r ≡ tab 256 (upto (sizeOf (now (tree .entry))) (passes (treeOf (now (tree .entry))) name)) ⌝ }
+{
+    let n = tree.len() / 2;
+    let mut r = [0u8; 256];
+    let mut y = 0;
+    while y < n {
+        r[y] = sets::byte(passes_name(tree, name, y));
+        y += 1;
+    }
+    r
+}
+
+// The image under a step, by the code of its axis and its name test, or under the step's converse.
+pub fn step(
+    tree: &[u16],
+    prev: &[u16],
+    a: usize,
+    name: usize,
+    back: bool,
+    from: [u8; 256],
+) -> [u8; 256]
+    requires { ⌜ Linked (now tree) (now prev) × (a ≤ 12) ⌝ }
+    ensures { λ r. ⌜ r ≡ tab 256 (image (sizeOf (now (tree .entry))) (turn back (steps (treeOf (now (tree .entry))) a name)) (memb from)) ⌝ }
+{
+    let s = named(tree, name);
+    if back {
+        let m = sets::combined(sets::INTERSECTION, from, s);
+        return axis_image(tree, prev, a, true, m);
+    }
+    let m = axis_image(tree, prev, a, false, from);
+    sets::combined(sets::INTERSECTION, m, s)
+}
