@@ -23,6 +23,13 @@ use Rattle.model.proofs.Exists.{none-of}
 use Rattle.model.proofs.Axes.{descendant-lower, five-axes}
 use Rattle.model.proofs.Refusals.{Passes, numbered, accepted, all-pass, Passes-front}
 
+-- what the check of a table's length secures: some whole items of k numbers each, and not too many
+pub length-fits : (k most l : ℕ) → (eqb l 0 || (not (eqb (l % k) 0) || ltb most l)) ≡ false → (l ≡ 0 → ⊥) × (l % k ≡ 0) × (l ≤ most)
+length-fits k most l h =
+    let (z, m) = no-or (eqb l 0) (not (eqb (l % k) 0) || ltb most l) h in
+    let (o, g) = no-or (not (eqb (l % k) 0)) (ltb most l) m in
+    (eqb-false l 0 z, eqb-true (l % k) 0 (not-false (eqb (l % k) 0) o), ltb-false most l g)
+
 -- trees
 
 parent-before : (d : Tree) (m : ℕ) → Falling d m → badParent d (suc m) ≡ false → d .parent (suc m) < suc m
@@ -67,11 +74,7 @@ ordered-of d a b h = record {
 pub tree-ordered : (t : List ℕ) → Passes (treeChecks t) → Ordered (treeOf t)
 unfolding treeChecks Passes
 tree-ordered t w =
-    let (z, m) = no-or (eqb (length t) 0) (not (eqb (length t % 2) 0) || ltb 512 (length t)) (w .0) in
-    let (o, g) = no-or (not (eqb (length t % 2) 0)) (ltb 512 (length t)) m in
-    let some : length t ≡ 0 → ⊥ = eqb-false (length t) 0 z in
-    let even : length t % 2 ≡ 0 = eqb-true (length t % 2) 0 (not-false (eqb (length t % 2) 0) o) in
-    let most : length t ≤ 512 = ltb-false 512 (length t) g in
+    let (some, even, most) = length-fits 2 512 (length t) (w .0) in
     ordered-of (treeOf t) (let a : 0 < length t / 2 = omega arith in a) (let b : length t / 2 ≤ 256 = omega arith in b) (w .1 .0)
 
 -- queries
@@ -87,10 +90,7 @@ module _ (q : List ℕ) (least columns : ℕ) (b : Passes (queryChecks q least c
   pub entries-some : 0 < entriesOf q
   unfolding queryChecks Passes
   entries-some =
-      let (z, m) = no-or (eqb (length q) 0) (not (eqb (length q % 4) 0) || ltb 256 (length q)) (b .0) in
-      let (o, g) = no-or (not (eqb (length q % 4) 0)) (ltb 256 (length q)) m in
-      let some : length q ≡ 0 → ⊥ = eqb-false (length q) 0 z in
-      let four : length q % 4 ≡ 0 = eqb-true (length q % 4) 0 (not-false (eqb (length q % 4) 0) o) in
+      let (some, four, most) = length-fits 4 256 (length q) (b .0) in
       omega arith
 
   pub columns-most : columns ≤ 3

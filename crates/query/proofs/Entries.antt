@@ -1,26 +1,18 @@
 -- Laws of reading an entry and of the checks of single entries.
-use Prim.Native.Nat.{ℕ, _-_, _/_, _%_, _≤_}
+use Prim.Native.Nat.{ℕ, _-_, _/_, _≤_}
 use native.Mathlib.Omega.{arith}
 use mathlib.Core.Path.{_≡_, sym, ap, _∙_}
-use mathlib.Core.Bool.{Bool, false, not, _||_}
+use mathlib.Core.Bool.{Bool, false}
 use mathlib.Core.List.{List, [], _∷_}
 use lib.ListN.{length, getD, List·getD-eq-default}
-use lib.Dec.{ltb, eqb}
-use borrow.Author.Tests.{ltb-false, eqb-true, eqb-false, not-false}
 use Rattle.model.specs.declared.Entry.{Entry}
 use Rattle.model.specs.QueryTable.{kind, left, right, tag, entry}
 use Rattle.model.specs.Checks.{badQueryLength, badKind, badField, badOperand, badSort, badEntry}
-use Rattle.model.proofs.Booleans.{no-or}
+use Rattle.model.proofs.Accepted.{length-fits}
 
 -- what the length check gives: 1 to 64 entries
 pub few-entries : (l : ℕ) (b : Bool) → b ≡ badQueryLength l → b ≡ false → (1 ≤ l / 4) × (l / 4 ≤ 64)
-few-entries l b p h =
-    let (z, m) = no-or (eqb l 0) (not (eqb (l % 4) 0) || ltb 256 l) (sym p ∙ h) in
-    let (o, g) = no-or (not (eqb (l % 4) 0)) (ltb 256 l) m in
-    let some : l ≡ 0 → ⊥ = eqb-false l 0 z in
-    let four : l % 4 ≡ 0 = eqb-true (l % 4) 0 (not-false (eqb (l % 4) 0) o) in
-    let most : l ≤ 256 = ltb-false 256 l g in
-    (omega arith, omega arith)
+few-entries l b p h = let (some, four, most) = length-fits 4 256 l (sym p ∙ h) in (omega arith, omega arith)
 
 -- a number past the end
 pub past : (q : List ℕ) (at : ℕ) → length q ≤ at → 0 ≡ getD q at 0

@@ -1,14 +1,13 @@
 -- Laws of the checks that go node by node.
-use Prim.Native.Nat.{ℕ, _/_, _%_, _<_}
+use Prim.Native.Nat.{ℕ, _/_, _<_}
 use native.Mathlib.Omega.{arith}
 use mathlib.Core.Path.{_≡_, sym, ap, _∙_}
-use mathlib.Core.Bool.{Bool, false, not, _||_}
-use lib.Dec.{ltb, eqb}
-use borrow.Author.Tests.{ltb-false, eq-eqb, ne-eqb}
+use mathlib.Core.Bool.{Bool, false}
+use borrow.Author.Tests.{eq-eqb, ne-eqb}
 use Rattle.model.specs.Sets.{any}
 use Rattle.model.specs.Tree.{Tree}
 use Rattle.model.specs.Checks.{badTreeLength, badParent, badTag}
-use Rattle.model.proofs.Booleans.{no-or}
+use Rattle.model.proofs.Accepted.{length-fits}
 use Rattle.tree.specs.Checks.{nodeFails}
 
 -- check 6 is that of the parents, and 7 that of the tags
@@ -31,7 +30,4 @@ parents-pass k t x e h = ap (any x) (sym (parents k t e)) ∙ h
 
 -- the place of a node fits a reply, where the table is not too long
 pub place-fits : (l x : ℕ) (b : Bool) → x < l / 2 → b ≡ badTreeLength l → b ≡ false → x < 65536
-place-fits l x b n e h =
-    let (_, m) = no-or (eqb l 0) (not (eqb (l % 2) 0) || ltb 512 l) (sym e ∙ h) in
-    let (_, g) = no-or (not (eqb (l % 2) 0)) (ltb 512 l) m in
-    omega (arith, ltb-false 512 l g)
+place-fits l x b n e h = let (some, even, most) = length-fits 2 512 l (sym e ∙ h) in omega arith
