@@ -1,0 +1,16 @@
+use borrow.Author.Needs.{needs}
+use Rattle.answers.proofs.Search.{start-begun, start-fresh}
+use Rattle.answers.proofs.start.Statement.{statement}
+use Rattle.answers.proofs.start.Tie as tie
+
+next-requires : tie.Need-next-requires
+next-requires c κs = (c .before .pre .1 .0, (c .before .pre .1 .1 .0, c .before .pre .1 .1 .1 (c .if1 .taken)))
+
+returns : tie.Need-returns
+returns c = search (start-begun, needs)
+
+returns-2 : tie.Need-returns-2
+returns-2 c = search (start-fresh, needs)
+
+pub start-spec : {M : Type 1} → statement M
+start-spec = tie.close (tie.spec next-requires returns returns-2)

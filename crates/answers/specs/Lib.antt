@@ -1,0 +1,3 @@
+pub mod Page
+pub mod Search
+pub mod Calls

@@ -1,0 +1,190 @@
+// Evaluation of a query over node sets: a path forwards or backwards from a set, a node expression at all nodes at once.
+// Path and node evaluation call each other, the entry number falling.
+//
+// A path without intersect and except costs O(entries × n), whatever its nesting: every entry is evaluated once, and
+// `some` is one backward image of all nodes. Intersect and except go over the start nodes one at a time, O(n) times the
+// cost of their operands. Sets travel by value, so that a level of calls takes a few KiB of stack, and a query has at
+// most 64 levels.
+ghost use mathlib.Core.Path.{_≡_};
+ghost use mathlib.Core.Bool.{false, cond};
+ghost use Prim.Native.Nat.{ℕ, _≤_, _<_};
+ghost use lib.ListN.{length};
+ghost use Rattle.model.specs.Sets.{tab, memb, turn, image};
+ghost use Rattle.model.specs.Tree.{sizeOf};
+ghost use Rattle.model.specs.Results.{assigned};
+ghost use Rattle.sets.specs.NodeSets.{only};
+ghost use Rattle.eval.specs.Evaluation.{Ready, OfKind, passed, reached, row, joined, ending};
+
+// The node of variable k, as a set.
+fn variable(nodes: &[u16], k: usize) -> [u8; 256]
+    requires { ⌜ (k < length (now nodes)) × (assigned (now nodes) k < 256) ⌝ }
+    ensures { λ r. ⌜ r ≡ tab 256 (only (assigned (now (nodes .entry)) k)) ⌝ }
+{
+    let x = model::wide(nodes[k]);
+    sets::single(x)
+}
+
+// The image under the pairs that end in a set, whatever node they start from. O(n).
+fn ending_image(n: usize, to: [u8; 256], back: bool, from: [u8; 256]) -> [u8; 256]
+    requires { ⌜ n ≤ 256 ⌝ }
+    ensures { λ r. ⌜ r ≡ tab 256 (image n (turn back (ending to)) (memb from)) ⌝ }
+{
+    if back {
+        let hits = sets::combined(sets::INTERSECTION, from, to);
+        let hit = sets::occupied(n, hits);
+        return sets::full_if(hit, n);
+    }
+    let some = sets::occupied(n, from);
+    let all = sets::full_if(some, n);
+    sets::combined(sets::INTERSECTION, all, to)
+}
+
+// The one number if b, else the other.
+fn either(b: bool, x: usize, y: usize) -> usize
+    ensures { λ r. ⌜ r ≡ cond b x y ⌝ }
+{
+    if b { x } else { y }
+}
+
+// What a set reaches by the path at entry e, or what reaches the set where back is set. Of a composition the operand at the
+// side of the set goes first. The test of a filter holds at the end node: forwards it cuts the image, backwards the set.
+pub fn path(
+    tree: &[u16],
+    prev: &[u16],
+    query: &[u16],
+    nodes: &[u16],
+    e: usize,
+    back: bool,
+    from: [u8; 256],
+) -> [u8; 256]
+    requires { ⌜ Ready (now tree) (now prev) (now query) (now nodes) × OfKind (now query) e 0 7 ⌝ }
+    ensures { λ r. ⌜ r ≡ reached (now (tree .entry)) (now (query .entry)) (now (nodes .entry)) e back from ⌝ }
+{
+    let f = query::entry_at(query, e);
+    let k = f.kind;
+    let l = f.left;
+    let r = f.right;
+    if k == 0 {
+        return steps::step(tree, prev, l, f.tag, back, from);
+    }
+    if k == 1 {
+        let first = either(back, r, l);
+        let second = either(back, l, r);
+        let m = path(tree, prev, query, nodes, first, back, from);
+        return path(tree, prev, query, nodes, second, back, m);
+    }
+    if k == 2 {
+        return operands(tree, prev, query, nodes, e, back, from);
+    }
+    if k < 5 {
+        return by_rows(tree, prev, query, nodes, e, back, from);
+    }
+    if k == 5 {
+        let s = node(tree, prev, query, nodes, r);
+        if back {
+            let m = sets::combined(sets::INTERSECTION, from, s);
+            return path(tree, prev, query, nodes, l, back, m);
+        }
+        let m = path(tree, prev, query, nodes, l, back, from);
+        return sets::combined(sets::INTERSECTION, m, s);
+    }
+    let to = ends(tree, prev, query, nodes, e);
+    ending_image(tree.len() / 2, to, back, from)
+}
+
+// The nodes where the node expression at entry e holds.
+pub fn node(tree: &[u16], prev: &[u16], query: &[u16], nodes: &[u16], e: usize) -> [u8; 256]
+    requires { ⌜ Ready (now tree) (now prev) (now query) (now nodes) × OfKind (now query) e 8 12 ⌝ }
+    ensures { λ r. ⌜ r ≡ passed (now (tree .entry)) (now (query .entry)) (now (nodes .entry)) e ⌝ }
+{
+    let n = tree.len() / 2;
+    let f = query::entry_at(query, e);
+    let k = f.kind;
+    let l = f.left;
+    let r = f.right;
+    if k == 8 {
+        let all = sets::full(n);
+        return path(tree, prev, query, nodes, l, true, all);
+    }
+    if k == 9 {
+        let all = sets::full(n);
+        let a = node(tree, prev, query, nodes, l);
+        return sets::combined(sets::DIFFERENCE, all, a);
+    }
+    if k == 12 {
+        return variable(nodes, l);
+    }
+    let a = node(tree, prev, query, nodes, l);
+    let b = node(tree, prev, query, nodes, r);
+    if k == 10 {
+        return sets::combined(sets::INTERSECTION, a, b);
+    }
+    sets::combined(sets::UNION, a, b)
+}
+
+// What a set reaches by each operand of a union, intersect or except, combined so. For a union that is what the set
+// reaches by the entry itself; for the others it is only where the set has one node.
+fn operands(
+    tree: &[u16],
+    prev: &[u16],
+    query: &[u16],
+    nodes: &[u16],
+    e: usize,
+    back: bool,
+    from: [u8; 256],
+) -> [u8; 256]
+    requires { ⌜ Ready (now tree) (now prev) (now query) (now nodes) × OfKind (now query) e 2 4 ⌝ }
+    ensures { λ r. ⌜ r ≡ joined (now (tree .entry)) (now (query .entry)) (now (nodes .entry)) e back from ⌝ }
+{
+    let f = query::entry_at(query, e);
+    let k = f.kind;
+    let l = f.left;
+    let r = f.right;
+    let a = path(tree, prev, query, nodes, l, back, from);
+    let b = path(tree, prev, query, nodes, r, back, from);
+    let op = (k - 2) as u8;
+    sets::combined(op, a, b)
+}
+
+// An intersect or except, one start node after the other.
+fn by_rows(
+    tree: &[u16],
+    prev: &[u16],
+    query: &[u16],
+    nodes: &[u16],
+    e: usize,
+    back: bool,
+    from: [u8; 256],
+) -> [u8; 256]
+    requires { ⌜ Ready (now tree) (now prev) (now query) (now nodes) × OfKind (now query) e 3 4 ⌝ }
+    ensures { λ r. ⌜ r ≡ reached (now (tree .entry)) (now (query .entry)) (now (nodes .entry)) e back from ⌝ }
+{
+    let n = tree.len() / 2;
+    let mut found = sets::full(0);
+    let mut x = 0;
+    while x < n {
+        if from[x] != 0 {
+            let s = sets::single(x);
+            let row = operands(tree, prev, query, nodes, e, back, s);
+            let next = sets::combined(sets::UNION, found, row);
+            found = next;
+        }
+        x += 1;
+    }
+    found
+}
+
+// The nodes at which a variable or a path from the root ends, from any start.
+fn ends(tree: &[u16], prev: &[u16], query: &[u16], nodes: &[u16], e: usize) -> [u8; 256]
+    requires { ⌜ Ready (now tree) (now prev) (now query) (now nodes) × OfKind (now query) e 6 7 ⌝ }
+    ensures { λ r. ⌜ r ≡ row (now (tree .entry)) (now (query .entry)) (now (nodes .entry)) e false 0 ⌝ }
+{
+    let f = query::entry_at(query, e);
+    let k = f.kind;
+    let l = f.left;
+    if k == 6 {
+        return variable(nodes, l);
+    }
+    let root = sets::single(0);
+    path(tree, prev, query, nodes, l, false, root)
+}

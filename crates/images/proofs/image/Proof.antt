@@ -1,0 +1,25 @@
+use Rattle.images.proofs.Tables.{image-over}
+use Rattle.images.proofs.Accepted.{image-accepted}
+use Rattle.model.proofs.Refusals.{written-not}
+use borrow.Author.Needs.{needs}
+use Rattle.images.proofs.image.Statement.{statement}
+use Rattle.images.proofs.image.Tie as tie
+
+check-image-requires : tie.Need-check-image-requires
+check-image-requires c κs = search needs
+
+returns : tie.Need-returns
+returns c = search (written-not, needs)
+
+image-into-requires : tie.Need-image-into-requires
+image-into-requires c κs = image-accepted _ _ _ _ _ _ _ (c .before .before .before .check-image .ensures) (c .before .if1 .left)
+
+same-length : tie.Need-same-length
+same-length c = search needs
+
+returns-2 : tie.Need-returns-2
+returns-2 c = search (image-over, needs)
+
+pub image-spec : {M : Type 1} → statement M
+image-spec =
+    tie.close (tie.spec check-image-requires returns image-into-requires same-length returns-2)

@@ -1,0 +1,67 @@
+// Everything that a terminal calls, under C names: include/geznauri.h describes it. Each function is a thin form of one
+// service, and its contract is that service's.
+ghost use mathlib.Core.Path.{_≡_};
+ghost use mathlib.Core.Bool.{true, false};
+ghost use Rattle.model.specs.Refusals.{verdict};
+ghost use Rattle.model.specs.Checks.{treeChecks, queryChecks};
+ghost use Rattle.images.specs.Services.{imageReply, imageBuffer, pairsReply, pairsBuffer};
+
+// The check of a tree table.
+#[no_mangle]
+pub extern "C" fn gz_check_tree(tree: &[u16]) -> model::Reply
+    ensures { λ r. ⌜ r ≡ verdict (treeChecks (now (tree .entry))) ⌝ }
+{
+    tree::check_tree(tree)
+}
+
+// The check of a query table with its number of variables.
+#[no_mangle]
+pub extern "C" fn gz_check_query(query: &[u16], columns: u16) -> model::Reply
+    ensures { λ r. ⌜ r ≡ verdict (queryChecks (now (query .entry)) 0 columns) ⌝ }
+{
+    query::check_query(query, model::wide(columns))
+}
+
+// The nodes that a set reaches by a query.
+#[no_mangle]
+pub extern "C" fn gz_forwards(
+    tree: &[u16],
+    query: &[u16],
+    columns: u16,
+    nodes: &[u16],
+    from: &[u8],
+    to: &mut [u8],
+) -> model::Reply
+    ensures { λ r. ⌜ (r ≡ imageReply (now (tree .entry)) (now (query .entry)) columns (now (nodes .entry)) (now (from .entry)) (now (to .entry))) × (now (to .exit) ≡ imageBuffer (now (tree .entry)) (now (query .entry)) columns (now (nodes .entry)) false (now (from .entry)) (now (to .entry))) ⌝ }
+{
+    images::forwards(tree, query, model::wide(columns), nodes, from, to)
+}
+
+// The nodes that reach a set by a query.
+#[no_mangle]
+pub extern "C" fn gz_backwards(
+    tree: &[u16],
+    query: &[u16],
+    columns: u16,
+    nodes: &[u16],
+    from: &[u8],
+    to: &mut [u8],
+) -> model::Reply
+    ensures { λ r. ⌜ (r ≡ imageReply (now (tree .entry)) (now (query .entry)) columns (now (nodes .entry)) (now (from .entry)) (now (to .entry))) × (now (to .exit) ≡ imageBuffer (now (tree .entry)) (now (query .entry)) columns (now (nodes .entry)) true (now (from .entry)) (now (to .entry))) ⌝ }
+{
+    images::backwards(tree, query, model::wide(columns), nodes, from, to)
+}
+
+// All pairs of a query.
+#[no_mangle]
+pub extern "C" fn gz_pairs(
+    tree: &[u16],
+    query: &[u16],
+    columns: u16,
+    nodes: &[u16],
+    table: &mut [u8],
+) -> model::Reply
+    ensures { λ r. ⌜ (r ≡ pairsReply (now (tree .entry)) (now (query .entry)) columns (now (nodes .entry)) (now (table .entry))) × (now (table .exit) ≡ pairsBuffer (now (tree .entry)) (now (query .entry)) columns (now (nodes .entry)) (now (table .entry))) ⌝ }
+{
+    images::pairs(tree, query, model::wide(columns), nodes, table)
+}
