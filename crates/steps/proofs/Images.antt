@@ -141,3 +141,9 @@ module _ (t : Tree) (n a name : ℕ) (l : n ≤ 256) (f : List ℕ) (g : f ≡ t
   pub step-back : (s m o : List ℕ) → o ≡ tab 256 (image n (turn true (axis t a)) (memb m)) → m ≡ tab 256 (combination 1 s f) → o ≡ tab 256 (image n (turn true (steps t a name)) (memb s))
   unfolding steps
   step-back s m o p e = p ∙ rw (e, g) (image-kept n l (λ x y. axis t a y x) (passes t name) s)
+
+-- the star cuts nothing
+pub step-star : (t : Tree) (n a name : ℕ) (back : Bool) (S : ℕ → Bool) (o : List ℕ) → n ≤ 256 → o ≡ tab 256 (image n (turn back (axis t a)) S) → name ≡ 65535
+    → o ≡ tab 256 (image n (turn back (steps t a name)) S)
+unfolding steps passes
+step-star t n a name back S o l p e = p ∙ image-turned n l back (axis t a) (steps t a name) S (λ x y lx ly. rw e (sym (and-comm (axis t a x y) true)))
