@@ -1,12 +1,6 @@
 /* This engine, over its C boundary: every call is lent the tables, and checks the tree and the query anew. */
 #include "bench.h"
-#include <string.h>
-
-typedef struct {
-    uint16_t number, place;
-} gz_reply;
-gz_reply gz_forwards(const uint16_t *tree, size_t tree_len, const uint16_t *query, size_t query_len, uint16_t columns,
-                     const uint16_t *nodes, size_t nodes_len, const uint8_t *from, size_t from_len, uint8_t *to, size_t to_len);
+#include "geznauri.h"
 
 static const uint16_t *table;
 static size_t count, last;

@@ -5,6 +5,8 @@ ghost use mathlib.Core.Bool.{true, false};
 ghost use Rattle.model.specs.Refusals.{verdict};
 ghost use Rattle.model.specs.Checks.{treeChecks, queryChecks};
 ghost use Rattle.images.specs.Services.{imageReply, imageBuffer, pairsReply, pairsBuffer};
+ghost use Rattle.answers.specs.Page.{pageOutcome, Leaves};
+ghost use Rattle.names.specs.Names.{nameChecks, partFor, IsPart};
 
 // The check of a tree table.
 #[no_mangle]
@@ -64,4 +66,59 @@ pub extern "C" fn gz_pairs(
     ensures { λ r. ⌜ (r ≡ pairsReply (now (tree .entry)) (now (query .entry)) columns (now (nodes .entry)) (now (table .entry))) × (now (table .exit) ≡ pairsBuffer (now (tree .entry)) (now (query .entry)) columns (now (nodes .entry)) (now (table .entry))) ⌝ }
 {
     images::pairs(tree, query, model::wide(columns), nodes, table)
+}
+
+// The page after a cursor, by value: the reply, and the cursor after it.
+fn page_from(
+    tree: &[u16],
+    query: &[u16],
+    columns: u16,
+    cursor: model::Cursor,
+    rows: &mut [u16],
+) -> answers::Paged
+    ensures { λ r.
+        ⌜
+        Leaves (pageOutcome (now (tree .entry)) (now (query .entry)) columns cursor (now (rows .entry)))
+        (r .reply) (r .cursor) (now (rows .exit))
+        ⌝ }
+{
+    answers::page_from(tree, query, model::wide(columns), cursor, rows)
+}
+
+// The page of answers after the cursor that is lent, which moves on to the last row written.
+#[no_mangle]
+pub extern "C" fn gz_page(
+    tree: &[u16],
+    query: &[u16],
+    columns: u16,
+    cursor: &mut model::Cursor,
+    rows: &mut [u16],
+) -> model::PageReply
+    ensures { λ r.
+        ⌜
+        Leaves (pageOutcome (now (tree .entry)) (now (query .entry)) columns (now (cursor .entry)) (now (rows .entry)))
+        r (now (cursor .exit)) (now (rows .exit))
+        ⌝ }
+{
+    let p = page_from(tree, query, columns, *cursor, rows);
+    *cursor = p.cursor;
+    p.reply
+}
+
+// The name of a tag, as a part of the table that holds it.
+#[no_mangle]
+pub extern "C" fn gz_name<'a>(
+    house: &'a [u8],
+    site: &'a [u8],
+    tag: u16,
+    name: &mut &'a [u8],
+) -> model::Reply
+    ensures { λ r.
+        ⌜
+        (r ≡ verdict (nameChecks (now (house .entry)) (now (site .entry)) tag))
+        × IsPart (house .entry) (site .entry) (now (name .exit)) (partFor (now (house .entry)) (now (site .entry)) tag)
+        ⌝ }
+{
+    *name = names::name(house, site, tag);
+    names::check_name(house, site, tag)
 }

@@ -1,0 +1,263 @@
+/*
+ * Geznauri: queries over small trees, for C.
+ *
+ * The engine answers Core XPath queries with intersect, except and node variables over trees of up to 256 nodes. Trees and
+ * queries are lent to it as tables of 16-bit numbers; this page describes them, every function, and every reply.
+ *
+ * To link: `./build` writes target/staticlib/libterminal.a, for x86-64 Linux.
+ *
+ *     cc -I include program.c target/staticlib/libterminal.a
+ *
+ * Contents:  1 For every call   2 Tree table   3 Query table   4 Node sets and relations   5 Answers, pages, cursors
+ *            6 Name tables   7 Numbers of refusal   8 Types   9 Functions
+ *
+ *
+ * 1  FOR EVERY CALL
+ *
+ * Any contents are taken. Each function checks all that it is lent, in every call; what it cannot take it refuses by number
+ * and place (section 7). A refused call writes nothing, but for gz_name, which then hands back an empty part. There are no
+ * errors of any other kind: every call returns, sets no errno, takes no memory from the heap and makes no system call.
+ *
+ * Slices. A pointer and a length behind it are one slice. The length is in elements, not in bytes. The pointer is valid and
+ * aligned for that many elements; where the length is 0 it is neither read nor written through, and may be NULL. A const
+ * slice is only read, a slice without const is the buffer of the result. The pointers `cursor` and `name` are never NULL.
+ *
+ * Aliasing. Slices that are only read may overlap one another. What a call writes (buffer, cursor, name) shares no memory
+ * with anything else that is lent to the same call. Nobody else writes what a call is lent while it runs.
+ *
+ * Threads. No function keeps anything between calls, and there is no global state: calls may run at the same time on any
+ * number of threads, with the same tables too, so long as each has its own buffer and cursor.
+ *
+ * Stack. Less than 8 KiB for a query of one level, and less than 4 KiB for each further level of its nesting; there are 64
+ * levels at most, so that no call takes 260 KiB.
+ *
+ * Everything is counted from 0. Numbers of tables are in the machine's own byte order.
+ *
+ *
+ * 2  TREE TABLE
+ *
+ * Two numbers a node: its parent, its tag. Node k has the numbers at 2 k and 2 k + 1; the tree has n nodes, 1 to 256, so that
+ * tree_len is 2 n. Nodes are numbered in document order: node 0 is the root, with parent 65535, and the parent of each later
+ * node k is node k - 1 or an ancestor of node k - 1. Siblings stand in number order. Tags are 0 to 65533.
+ *
+ * The tree of all examples here, a hall (tag 1) with two bays (tag 2) that hold pallets (tag 3):
+ *
+ *     0 hall                        uint16_t tree[] = {65535, 1,  0, 2,  1, 3,  1, 3,  0, 2,  4, 3};
+ *     |-- 1 bay
+ *     |   |-- 2 pallet
+ *     |   `-- 3 pallet
+ *     `-- 4 bay
+ *         `-- 5 pallet
+ *
+ *
+ * 3  QUERY TABLE
+ *
+ * Four numbers an entry: kind, left, right, tag. Entry e has the numbers from 4 e on; there are 1 to 64 entries, so that
+ * query_len is four times their number. The last entry is the query. Beside the table a call is told the number of
+ * variables, `columns`, 0 to 3; variables are numbered from 0, and an assignment gives each one node.
+ *
+ * An entry is a path (kinds 0 to 7), a set of pairs (x, y) of nodes, read 'from x to y'; or a node expression (kinds 8 to
+ * 12), which holds at a node x or does not. 'path' and 'expr' below are operands: numbers of earlier entries of that sort.
+ * Every entry but the last is an operand exactly once. A field with a dash must be 0.
+ *
+ *     kind                left       right   tag     meaning
+ *      0  step            axis       -       test    y is on the axis from x, and y passes the test
+ *      1  compose         path       path    -       for some z, (x, z) is in left and (z, y) is in right
+ *      2  union           path       path    -       (x, y) is in left or in right
+ *      3  intersect       path       path    -       (x, y) is in left and in right
+ *      4  except          path       path    -       (x, y) is in left and not in right
+ *      5  filter          path       expr    -       (x, y) is in left, and right holds at y
+ *      6  variable        variable   -       -       y is the variable's node; x is any node
+ *      7  from the root   path       -       -       (0, y) is in left; x is any node
+ *      8  some            path       -       -       left has a pair (x, y), for at least one y
+ *      9  not             expr       -       -       left does not hold at x
+ *     10  and             expr       expr    -       left and right hold at x
+ *     11  or              expr       expr    -       left or right holds at x
+ *     12  is              variable   -       -       x is the variable's node
+ *
+ * A step's test is a tag, 0 to 65533, which passes the nodes with that tag, or 65535, the star, which passes every node.
+ *
+ *     axis                     y is on it from x if
+ *      0  self                 y is x
+ *      1  child                x is y's parent
+ *      2  parent               y is x's parent
+ *      3  right                y is the next sibling after x
+ *      4  left                 y is the next sibling before x
+ *      5  descendant           x is reached from y by one or more steps to the parent
+ *      6  ancestor             y is reached from x by one or more steps to the parent
+ *      7  following            y is later than x and no descendant of x
+ *      8  preceding            y is earlier than x and no ancestor of x
+ *      9  following-sibling    y is a later child of x's parent
+ *     10  preceding-sibling    y is an earlier child of x's parent
+ *     11  descendant-or-self   y is x or a descendant of x
+ *     12  ancestor-or-self     y is x or an ancestor of x
+ *
+ * descendant::2[. is $0]/child::3[. is $1], the bays with their pallets, has two variables:
+ *
+ *     uint16_t query[] = {
+ *         0, 5, 0, 2,      entry 0   descendant::2
+ *         12, 0, 0, 0,     entry 1   . is $0
+ *         5, 0, 1, 0,      entry 2   entry 0 filtered by entry 1
+ *         0, 1, 0, 3,      entry 3   child::3
+ *         12, 1, 0, 0,     entry 4   . is $1
+ *         5, 3, 4, 0,      entry 5   entry 3 filtered by entry 4
+ *         1, 2, 5, 0,      entry 6   entry 2 composed with entry 5
+ *     };
+ *
+ *
+ * 4  NODE SETS AND RELATIONS
+ *
+ * A node set is n bytes: byte k is 1 if node k is in the set, else 0. The forward image of a set has y exactly if some x of
+ * the set has the pair (x, y); the backward image has x exactly if some y of the set has the pair (x, y). The relation table
+ * is n * n bytes: the byte at x * n + y is 1 if (x, y) is a pair, else 0. A result takes the first n or n * n bytes of its
+ * buffer, and the bytes behind keep what they held.
+ *
+ *
+ * 5  ANSWERS, PAGES, CURSORS
+ *
+ * A row is one node for each variable. It is an answer if, under it as the assignment, the query has a pair from any start.
+ * The answers are listed once each, by node number, the first variable weighing most; a variable that plays no part where
+ * the query holds takes every node there. The bays with their pallets have the answers (1, 2), (1, 3), (4, 5).
+ *
+ * gz_page reads them a page at a time. The caller keeps a cursor, all zero to begin with, and lends it to every call. The
+ * call writes the first answers after the cursor's row (from the first answer on where the cursor is fresh), as many as the
+ * buffer has whole room for, and moves the cursor to the last row written. A caller that goes on until `more` is false has
+ * read every answer once, in order, if each accepted call was lent the same tree, query and columns; refused calls between
+ * do no harm. A caller may also set the cursor: begun to true, and its first `columns` numbers to any nodes, answer or not.
+ *
+ *     gz_cursor cursor = {0};
+ *     uint16_t rows[64];
+ *     gz_page_reply page;
+ *     do {
+ *         page = gz_page(tree, 12, query, 28, 2, &cursor, rows, 64);
+ *         for (size_t i = 0; i < page.count; i++)
+ *             printf("bay %u, pallet %u\n", rows[2 * i], rows[2 * i + 1]);
+ *     } while (page.more);
+ *
+ *
+ * 6  NAME TABLES
+ *
+ * Tags may have names. Two tables of bytes are lent, the house's and the site's, each a run of names with nothing between
+ * them: a length byte, 1 to 32, then that many bytes. An empty table has no names. Tags count through the house's names
+ * first, then through the site's. Names are handed back as parts of the tables, not copied, and do not end in a zero byte.
+ *
+ *
+ * 7  NUMBERS OF REFUSAL
+ *
+ * A reply has number 0 and place 0 if the call is accepted. Else number says what is wrong and place where. Checks are made
+ * in the order of the numbers, each over all that it looks at before the next begins; the first that fails is the reply, at
+ * the lowest place that is at fault. Each function makes the checks that its description in section 9 names.
+ *
+ *      number   refused because                                                             place
+ *       5       the tree table is empty, of odd length, or longer than 512 numbers          0
+ *       6       node 0's parent is not 65535, or a later node's is neither the node         the node
+ *               before it nor an ancestor of that node
+ *       7       a node's tag is 65534 or 65535                                              the node
+ *       8       the query table is empty, its length no multiple of four, or longer         0
+ *               than 256 numbers
+ *       9       columns is above 3, or is 0 for gz_page                                     0
+ *      10       an entry's kind is above 12                                                 the entry
+ *      11       a step's axis is above 12 or its test 65534, a variable is not below        the entry
+ *               columns, or a field that must be 0 is not
+ *      12       an operand is not below its own entry's number                              the entry that has it
+ *      13       an operand is a path where a node expression is due, or the reverse         the entry that has it
+ *      14       an entry before the last is an operand never, or more than once             that operand entry
+ *      15       the last entry is a node expression                                         the last entry
+ *      16       nodes_len is not columns                                                    0
+ *      17       an assigned node, or one of the first `columns` numbers of a begun          the variable
+ *               cursor, is not below n
+ *      18       the node set is not n bytes long                                            0
+ *      19       a byte of the node set is above 1                                           the byte
+ *      20       the buffer has room for less than n bytes, n * n bytes or one row           0
+ *      21       a name table has a length byte of 0 or above 32, or a name that runs        0 the house's,
+ *               past its end                                                                1 the site's
+ *      22       the tag is above 65533 or has no name                                       0
+ *
+ * Numbers 1 to 4 are of job files, which no function here reads.
+ */
+#ifndef GEZNAURI_H
+#define GEZNAURI_H
+
+#include <stdbool.h>
+#include <stddef.h>
+#include <stdint.h>
+
+#ifdef __cplusplus
+extern "C" {
+#endif
+
+/* 8  TYPES */
+
+/* The reply to a call: 0 and 0, or the number and the place of a refusal. */
+typedef struct {
+    uint16_t number, place;
+} gz_reply;
+
+/* The reply to a page call: number and place as above, how many rows it wrote, and whether there is an answer after them. Of
+   a refused call, count is 0 and more is false. */
+typedef struct {
+    uint16_t number, place;
+    size_t count;
+    bool more;
+} gz_page_reply;
+
+/* Where a caller stands in the answers of a query: whether it has begun, and the last row given, one node for each variable.
+   All zero is a fresh cursor. While begun is false, last may hold anything; numbers of last at or above the number of
+   variables may always hold anything, and are kept. */
+typedef struct {
+    bool begun;
+    uint16_t last[3];
+} gz_cursor;
+
+/* A part of a name table: its first byte, and how many bytes it has. It is good for as long as the table is. */
+typedef struct {
+    const uint8_t *start;
+    size_t length;
+} gz_part;
+
+/* 9  FUNCTIONS */
+
+/* The check of a tree table: refusals 5 to 7. Time in proportion to tree_len. */
+gz_reply gz_check_tree(const uint16_t *tree, size_t tree_len);
+
+/* The check of a query table with its number of variables, 0 to 3: refusals 8 to 15. Time in proportion to query_len. */
+gz_reply gz_check_query(const uint16_t *query, size_t query_len, uint16_t columns);
+
+/* The nodes that the node set `from` reaches by the query: its forward image. nodes[k] is the node assigned to variable k, so
+   that nodes_len is columns (NULL and 0 for a query without variables). from_len is n; to_len is n or more. Refusals 5 to 20.
+   Accepted, the first n bytes of `to` are the image, and all later bytes are as they were; refused, all of `to` is.
+   A query without intersect and except takes time in proportion to its entries times n, however it nests; intersect and
+   except evaluate their operands once for each start node. */
+gz_reply gz_forwards(const uint16_t *tree, size_t tree_len, const uint16_t *query, size_t query_len, uint16_t columns,
+                     const uint16_t *nodes, size_t nodes_len, const uint8_t *from, size_t from_len, uint8_t *to, size_t to_len);
+
+/* The nodes that reach the node set `from` by the query: its backward image. All else is as for gz_forwards. */
+gz_reply gz_backwards(const uint16_t *tree, size_t tree_len, const uint16_t *query, size_t query_len, uint16_t columns,
+                      const uint16_t *nodes, size_t nodes_len, const uint8_t *from, size_t from_len, uint8_t *to, size_t to_len);
+
+/* All pairs of the query, under the assignment `nodes`: the relation table. table_len is n * n or more. Refusals 5 to 17 and
+   20. Accepted, the first n * n bytes of `table` are the relation, the pair (x, y) at x * n + y, and all later bytes are as
+   they were; refused, all of `table` is. One evaluation for each of the n start nodes. */
+gz_reply gz_pairs(const uint16_t *tree, size_t tree_len, const uint16_t *query, size_t query_len, uint16_t columns,
+                  const uint16_t *nodes, size_t nodes_len, uint8_t *table, size_t table_len);
+
+/* The next page of answers. columns is 1 to 3, and rows has room for rows_len / columns rows, at least one. Refusals 5 to 15,
+   17 and 20; 17 looks at the first `columns` numbers of a begun cursor only.
+   Accepted, count rows stand at the front of `rows`, `columns` numbers each: the first answers after the cursor's row, as
+   many as there are and as there is whole room for; all later numbers are as they were. more is true exactly if there is an
+   answer after them. The cursor is begun and at the last row written, its numbers at or above columns as they were; where
+   count is 0 all of it is as it was. Refused, the cursor and all of `rows` are as they were.
+   One evaluation for each row tried, at most n to the power of columns. */
+gz_page_reply gz_page(const uint16_t *tree, size_t tree_len, const uint16_t *query, size_t query_len, uint16_t columns,
+                      gz_cursor *cursor, uint16_t *rows, size_t rows_len);
+
+/* The name of a tag. Refusals 21 and 22; both tables are looked at before the tag. Accepted, *name is the part of the house's
+   or the site's table that is the name, without its length byte; refused, *name is the empty part at the start of the
+   house's table. What *name held before is not read. Time in proportion to the tables' lengths. */
+gz_reply gz_name(const uint8_t *house, size_t house_len, const uint8_t *site, size_t site_len, uint16_t tag, gz_part *name);
+
+#ifdef __cplusplus
+}
+#endif
+
+#endif

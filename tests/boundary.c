@@ -1,0 +1,341 @@
+/* Calls every function of include/geznauri.h as a C program does: with sound tables and, for each number of refusal, with a
+   damaged one. All tables are of the teaching warehouse, and all expected results are worked out by hand. Buffers stand in
+   memory that is filled with a pattern, and the whole of it is compared. Prints what differs; the status is 1 if anything
+   does. */
+#include "geznauri.h"
+#include <stdio.h>
+#include <string.h>
+
+_Static_assert(sizeof(gz_reply) == 4 && offsetof(gz_reply, number) == 0 && offsetof(gz_reply, place) == 2, "gz_reply");
+_Static_assert(sizeof(gz_page_reply) == 24 && offsetof(gz_page_reply, number) == 0 && offsetof(gz_page_reply, place) == 2, "gz_page_reply");
+_Static_assert(offsetof(gz_page_reply, count) == 8 && offsetof(gz_page_reply, more) == 16, "gz_page_reply");
+_Static_assert(sizeof(gz_cursor) == 8 && offsetof(gz_cursor, begun) == 0 && offsetof(gz_cursor, last) == 2, "gz_cursor");
+_Static_assert(sizeof(gz_part) == 16 && offsetof(gz_part, start) == 0 && offsetof(gz_part, length) == 8, "gz_part");
+_Static_assert(sizeof(bool) == 1 && sizeof(size_t) == 8, "bool and size_t");
+
+#define PATTERN 0xA5
+#define MARGIN 16 /* elements of the pattern before and behind a buffer */
+#define LENGTH(a) (sizeof(a) / sizeof *(a))
+#define SLICE(a) a, LENGTH(a)
+#define NUMBERS(...) (const uint16_t[]){__VA_ARGS__}, sizeof((const uint16_t[]){__VA_ARGS__}) / sizeof(uint16_t)
+#define NOTHING NULL, 0
+
+static int tried, failed;
+
+static void expect(bool ok, const char *function, const char *what, const char *of)
+{
+    tried++;
+    if (!ok) {
+        printf("%s: %s: wrong %s\n", function, what, of);
+        failed++;
+    }
+}
+
+static const uint16_t warehouse[] = {65535, 1, 0, 2, 1, 3, 1, 3, 0, 2, 4, 3};
+
+/* descendant::2[. is $0]/child::3[. is $1], the bays with their pallets */
+static const uint16_t pallets[] = {0, 5, 0, 2, 12, 0, 0, 0, 5, 0, 1, 0, 0, 1, 0, 3, 12, 1, 0, 0, 5, 3, 4, 0, 1, 2, 5, 0};
+/* child::2[child::3 and not(right::*)] */
+static const uint16_t last_bay[] = {0, 1, 0, 2, 0, 1, 0, 3, 8, 1, 0, 0, 0, 3, 0, 65535, 8, 3, 0, 0, 9, 4, 0, 0, 10, 2, 5, 0, 5, 0, 6, 0};
+static const uint16_t child[] = {0, 1, 0, 65535};
+static const uint16_t child_3[] = {0, 1, 0, 3};
+static const uint16_t following[] = {0, 7, 0, 65535};
+
+/* The checks of tables. */
+
+static void tree(const char *what, const uint16_t *table, size_t length, uint16_t number, uint16_t place)
+{
+    gz_reply r = gz_check_tree(table, length);
+    expect(r.number == number && r.place == place, "gz_check_tree", what, "reply");
+}
+
+static void trees(void)
+{
+    uint16_t flat[2 * 257] = {65535, 0};
+    tree("the warehouse", SLICE(warehouse), 0, 0);
+    tree("one node", NUMBERS(65535, 65533), 0, 0);
+    tree("256 nodes", flat, 512, 0, 0);
+    tree("257 nodes", flat, 514, 5, 0);
+    tree("no nodes", NOTHING, 5, 0);
+    tree("half a node", warehouse, 11, 5, 0);
+    tree("a root with a parent", NUMBERS(0, 1), 6, 0);
+    tree("node 1 its own parent", NUMBERS(65535, 1, 1, 2), 6, 1);
+    tree("a parent of another branch", NUMBERS(65535, 1, 0, 2, 1, 3, 1, 3, 0, 2, 2, 3), 6, 5);
+    tree("tag 65534", NUMBERS(65535, 1, 0, 65534, 1, 65535), 7, 1);
+    tree("parents before tags", NUMBERS(65535, 65535, 0, 2, 2, 3), 6, 2);
+}
+
+static void query(const char *what, const uint16_t *table, size_t length, uint16_t columns, uint16_t number, uint16_t place)
+{
+    gz_reply r = gz_check_query(table, length, columns);
+    expect(r.number == number && r.place == place, "gz_check_query", what, "reply");
+}
+
+static void queries(void)
+{
+    /* child::* and 64 times 'from the root' */
+    uint16_t nested[4 * 65] = {0, 1, 0, 65535};
+    for (uint16_t e = 1; e < 65; e++) {
+        nested[4 * e] = 7;
+        nested[4 * e + 1] = e - 1;
+    }
+    query("bays with pallets", SLICE(pallets), 2, 0, 0);
+    query("a variable more", SLICE(pallets), 3, 0, 0);
+    query("no variables", SLICE(last_bay), 0, 0, 0);
+    query("64 entries", nested, 256, 0, 0, 0);
+    query("65 entries", nested, 260, 0, 8, 0);
+    query("no entries", NOTHING, 0, 8, 0);
+    query("half an entry", child, 2, 0, 8, 0);
+    query("4 variables", SLICE(pallets), 4, 9, 0);
+    query("kind 13", NUMBERS(0, 1, 0, 2, 13, 0, 0, 0), 0, 10, 1);
+    query("axis 13", NUMBERS(0, 13, 0, 2), 0, 11, 0);
+    query("test 65534", NUMBERS(0, 1, 0, 65534), 0, 11, 0);
+    query("variable 1 of one", SLICE(pallets), 1, 11, 4);
+    query("a tag where 0 is due", NUMBERS(0, 1, 0, 2, 7, 0, 0, 1), 0, 11, 1);
+    query("an operand that is its own entry", NUMBERS(0, 1, 0, 2, 7, 1, 0, 0), 0, 12, 1);
+    query("not of a path", NUMBERS(0, 1, 0, 2, 9, 0, 0, 0), 0, 13, 1);
+    query("an operand used twice", NUMBERS(0, 1, 0, 2, 1, 0, 0, 0), 0, 14, 0);
+    query("an operand never used", NUMBERS(0, 1, 0, 2, 0, 1, 0, 3, 7, 0, 0, 0), 0, 14, 1);
+    query("a node expression", NUMBERS(12, 0, 0, 0), 1, 15, 0);
+}
+
+/* Images and pairs. */
+
+typedef gz_reply image_function(const uint16_t *, size_t, const uint16_t *, size_t, uint16_t, const uint16_t *, size_t,
+                                const uint8_t *, size_t, uint8_t *, size_t);
+
+static const struct direction {
+    const char *name;
+    image_function *function;
+} forwards = {"gz_forwards", gz_forwards}, backwards = {"gz_backwards", gz_backwards};
+
+/* What an evaluation is lent beside its node set and its buffer. */
+struct lent {
+    const uint16_t *tree;
+    size_t tree_len;
+    const uint16_t *query;
+    size_t query_len;
+    uint16_t columns;
+    const uint16_t *nodes;
+    size_t nodes_len;
+};
+#define LENT(...) (struct lent){SLICE(warehouse), __VA_ARGS__}
+#define ON(...) (struct lent){__VA_ARGS__}
+
+/* Bytes are written as digits. */
+static size_t bytes(uint8_t *to, const char *digits)
+{
+    size_t length = strlen(digits);
+    for (size_t i = 0; i < length; i++)
+        to[i] = (uint8_t)(digits[i] - '0');
+    return length;
+}
+
+static void image(const struct direction *d, const char *what, struct lent l, const char *from, size_t room, uint16_t number,
+                  uint16_t place, const char *result)
+{
+    uint8_t set[64], memory[MARGIN + 64 + MARGIN], wanted[sizeof memory];
+    size_t length = bytes(set, from);
+    memset(memory, PATTERN, sizeof memory);
+    memset(wanted, PATTERN, sizeof wanted);
+    bytes(wanted + MARGIN, result);
+    gz_reply r = d->function(l.tree, l.tree_len, l.query, l.query_len, l.columns, l.nodes, l.nodes_len, set, length, memory + MARGIN, room);
+    expect(r.number == number && r.place == place, d->name, what, "reply");
+    expect(memcmp(memory, wanted, sizeof memory) == 0, d->name, what, "buffer");
+}
+
+static void images(void)
+{
+    const struct direction *f = &forwards, *b = &backwards;
+    struct lent all_following = LENT(SLICE(following), 0, NOTHING);
+    struct lent preceding = LENT(NUMBERS(0, 8, 0, 65535), 0, NOTHING);
+    struct lent right = LENT(NUMBERS(0, 3, 0, 65535), 0, NOTHING);
+    struct lent to_child_3 = LENT(SLICE(child_3), 0, NOTHING);
+    struct lent intersect = LENT(NUMBERS(0, 0, 0, 65535, 0, 3, 0, 65535, 3, 0, 1, 0), 0, NOTHING);
+    struct lent except = LENT(NUMBERS(0, 5, 0, 65535, 0, 1, 0, 65535, 4, 0, 1, 0), 0, NOTHING);
+    struct lent from_root = LENT(NUMBERS(0, 1, 0, 2, 7, 0, 0, 0), 0, NOTHING);
+    struct lent variable = LENT(NUMBERS(6, 0, 0, 0), 1, NUMBERS(3));
+    image(f, "following::*", all_following, "001000", 6, 0, 0, "000111");
+    image(f, "following::*", all_following, "010000", 40, 0, 0, "000011");
+    image(b, "following::*", all_following, "000001", 6, 0, 0, "011100");
+    image(f, "preceding::*", preceding, "000001", 7, 0, 0, "011100");
+    image(f, "right::*", right, "010000", 6, 0, 0, "000010");
+    image(f, "right::*", right, "000100", 6, 0, 0, "000000");
+    image(b, "right::*", right, "111111", 6, 0, 0, "011000");
+    image(f, "child::3", to_child_3, "010010", 6, 0, 0, "001101");
+    image(b, "child::3", to_child_3, "001001", 40, 0, 0, "010010");
+    image(f, "self::* intersect right::*", intersect, "010010", 6, 0, 0, "000000");
+    image(f, "descendant::* except child::*", except, "110000", 6, 0, 0, "001101");
+    image(b, "descendant::* except child::*", except, "001001", 6, 0, 0, "100000");
+    image(f, "child::2[child::3 and not(right::*)]", LENT(SLICE(last_bay), 0, NOTHING), "100000", 6, 0, 0, "000010");
+    image(b, "child::2[child::3 and not(right::*)]", LENT(SLICE(last_bay), 0, NOTHING), "111111", 6, 0, 0, "100000");
+    image(f, "/child::2", from_root, "000001", 6, 0, 0, "010010");
+    image(b, "/child::2", from_root, "010000", 6, 0, 0, "111111");
+    image(f, "an empty set", all_following, "000000", 6, 0, 0, "000000");
+    image(f, "$0", variable, "000001", 6, 0, 0, "000100");
+    image(b, "$0", variable, "000001", 6, 0, 0, "000000");
+    image(f, "bay 1, pallet 3", LENT(SLICE(pallets), 2, NUMBERS(1, 3)), "111111", 6, 0, 0, "000100");
+    image(b, "bay 1, pallet 3", LENT(SLICE(pallets), 2, NUMBERS(1, 3)), "000100", 6, 0, 0, "100000");
+    image(f, "bay 4, pallet 3", LENT(SLICE(pallets), 2, NUMBERS(4, 3)), "111111", 6, 0, 0, "000000");
+    image(f, "parent::* in one node", ON(NUMBERS(65535, 1), NUMBERS(0, 2, 0, 65535), 0, NOTHING), "1", 1, 0, 0, "0");
+
+    /* both directions refuse the same, whatever they are lent besides */
+    for (int i = 0; i < 2; i++) {
+        const struct direction *d = i == 0 ? f : b;
+        image(d, "no tree", ON(NOTHING, SLICE(child), 0, NOTHING), "111111", 6, 5, 0, "");
+        image(d, "a bad parent", ON(NUMBERS(65535, 1, 1, 2), SLICE(child), 0, NOTHING), "11", 6, 6, 1, "");
+        image(d, "a bad tag", ON(NUMBERS(65535, 1, 0, 65535), SLICE(child), 0, NOTHING), "11", 6, 7, 1, "");
+        image(d, "no query", LENT(NOTHING, 0, NOTHING), "111111", 6, 8, 0, "");
+        image(d, "4 variables", LENT(SLICE(pallets), 4, NUMBERS(1, 2, 3, 4)), "111111", 6, 9, 0, "");
+        image(d, "kind 13", LENT(NUMBERS(13, 0, 0, 0), 0, NOTHING), "111111", 6, 10, 0, "");
+        image(d, "axis 13", LENT(NUMBERS(0, 13, 0, 0), 0, NOTHING), "111111", 6, 11, 0, "");
+        image(d, "an operand that is its own entry", LENT(NUMBERS(7, 0, 0, 0), 0, NOTHING), "111111", 6, 12, 0, "");
+        image(d, "not of a path", LENT(NUMBERS(0, 1, 0, 2, 9, 0, 0, 0), 0, NOTHING), "111111", 6, 13, 1, "");
+        image(d, "an operand used twice", LENT(NUMBERS(0, 1, 0, 2, 1, 0, 0, 0), 0, NOTHING), "111111", 6, 14, 0, "");
+        image(d, "a node expression", LENT(NUMBERS(12, 0, 0, 0), 1, NUMBERS(0)), "111111", 6, 15, 0, "");
+        image(d, "one node for two variables", LENT(SLICE(pallets), 2, NUMBERS(1)), "111111", 6, 16, 0, "");
+        image(d, "variable 1 at node 6", LENT(SLICE(pallets), 2, NUMBERS(5, 6)), "111111", 6, 17, 1, "");
+        image(d, "a set of 5 bytes", all_following, "11111", 6, 18, 0, "");
+        image(d, "a set of 7 bytes", all_following, "1111111", 6, 18, 0, "");
+        image(d, "a byte of 2", all_following, "110221", 6, 19, 3, "");
+        image(d, "room for 5 bytes", all_following, "111111", 5, 20, 0, "");
+        image(d, "a bad set and no room", all_following, "111112", 0, 19, 5, "");
+    }
+}
+
+static void relation(const char *what, struct lent l, size_t room, uint16_t number, uint16_t place, const char *result)
+{
+    uint8_t memory[MARGIN + 64 + MARGIN], wanted[sizeof memory];
+    memset(memory, PATTERN, sizeof memory);
+    memset(wanted, PATTERN, sizeof wanted);
+    bytes(wanted + MARGIN, result);
+    gz_reply r = gz_pairs(l.tree, l.tree_len, l.query, l.query_len, l.columns, l.nodes, l.nodes_len, memory + MARGIN, room);
+    expect(r.number == number && r.place == place, "gz_pairs", what, "reply");
+    expect(memcmp(memory, wanted, sizeof memory) == 0, "gz_pairs", what, "buffer");
+}
+
+static void relations(void)
+{
+    struct lent to_child = LENT(SLICE(child), 0, NOTHING);
+    relation("child::*", to_child, 36, 0, 0, "010010" "001100" "000000" "000000" "000001" "000000");
+    relation("following::*", LENT(SLICE(following), 0, NOTHING), 50, 0, 0, "000000" "000011" "000111" "000011" "000000" "000000");
+    relation("bay 4, pallet 5", LENT(SLICE(pallets), 2, NUMBERS(4, 5)), 36, 0, 0, "000001" "000000" "000000" "000000" "000000" "000000");
+    relation("self::* in one node", ON(NUMBERS(65535, 1), NUMBERS(0, 0, 0, 65535), 0, NOTHING), 1, 0, 0, "1");
+    relation("half a node", ON(warehouse, 11, SLICE(child), 0, NOTHING), 36, 5, 0, "");
+    relation("a bad query", LENT(NUMBERS(0, 1, 1, 2), 0, NOTHING), 36, 11, 0, "");
+    relation("a node for no variable", LENT(SLICE(child), 0, NUMBERS(1)), 36, 16, 0, "");
+    relation("variable 0 at node 6", LENT(SLICE(pallets), 2, NUMBERS(6, 6)), 36, 17, 0, "");
+    relation("room for 35 bytes", to_child, 35, 20, 0, "");
+}
+
+/* Pages. The cursor is moved on from call to call. */
+
+static void page(const char *what, struct lent l, gz_cursor *cursor, size_t room, gz_page_reply reply, const uint16_t *rows,
+                 size_t rows_len, gz_cursor after)
+{
+    struct {
+        uint64_t before;
+        gz_cursor cursor;
+        uint64_t behind;
+    } lent_cursor = {PATTERN, *cursor, PATTERN};
+    uint16_t memory[MARGIN + 64 + MARGIN], wanted[LENGTH(memory)];
+    memset(memory, PATTERN, sizeof memory);
+    memset(wanted, PATTERN, sizeof wanted);
+    if (rows_len != 0)
+        memcpy(wanted + MARGIN, rows, rows_len * sizeof *rows);
+    gz_page_reply r = gz_page(l.tree, l.tree_len, l.query, l.query_len, l.columns, &lent_cursor.cursor, memory + MARGIN, room);
+    *cursor = lent_cursor.cursor;
+    expect(r.number == reply.number && r.place == reply.place, "gz_page", what, "reply");
+    expect(r.count == reply.count && r.more == reply.more, "gz_page", what, "count or more");
+    expect(memcmp(memory, wanted, sizeof memory) == 0, "gz_page", what, "buffer");
+    expect(cursor->begun == after.begun && memcmp(cursor->last, after.last, sizeof after.last) == 0, "gz_page", what, "cursor");
+    expect(lent_cursor.before == PATTERN && lent_cursor.behind == PATTERN, "gz_page", what, "memory beside the cursor");
+}
+#define ACCEPTED(count, more) (gz_page_reply){0, 0, count, more}
+#define REFUSED(number, place) (gz_page_reply){number, place, 0, false}
+#define AT(a, b, c) (gz_cursor){true, {a, b, c}}
+
+static void pages(void)
+{
+    struct lent bays = LENT(SLICE(pallets), 2, NOTHING);
+    gz_cursor cursor = {false, {7, 8, 900}};
+    page("rows 1 and 2", bays, &cursor, 5, ACCEPTED(2, true), NUMBERS(1, 2, 1, 3), AT(1, 3, 900));
+    page("no variables", LENT(SLICE(pallets), 0, NOTHING), &cursor, 5, REFUSED(9, 0), NOTHING, AT(1, 3, 900));
+    page("room for no row", bays, &cursor, 1, REFUSED(20, 0), NOTHING, AT(1, 3, 900));
+    page("another tree, refused", ON(NUMBERS(65535, 65534), SLICE(pallets), 2, NOTHING), &cursor, 5, REFUSED(7, 0), NOTHING, AT(1, 3, 900));
+    page("row 3", bays, &cursor, 5, ACCEPTED(1, false), NUMBERS(4, 5), AT(4, 5, 900));
+    page("no more rows", bays, &cursor, 4, ACCEPTED(0, false), NOTHING, AT(4, 5, 900));
+    cursor = AT(1, 4, 900);
+    page("after (1, 4), no answer", bays, &cursor, 4, ACCEPTED(1, false), NUMBERS(4, 5), AT(4, 5, 900));
+    cursor = AT(0, 0, 0);
+    page("all at once", bays, &cursor, 64, ACCEPTED(3, false), NUMBERS(1, 2, 1, 3, 4, 5), AT(4, 5, 0));
+    cursor = AT(1, 6, 0);
+    page("a cursor at node 6", bays, &cursor, 4, REFUSED(17, 1), NOTHING, AT(1, 6, 0));
+    cursor = AT(6, 6, 0);
+    page("a cursor at nodes 6 and 6", bays, &cursor, 0, REFUSED(17, 0), NOTHING, AT(6, 6, 0));
+    page("half an entry", ON(SLICE(warehouse), pallets, 26, 2, NOTHING), &cursor, 4, REFUSED(8, 0), NOTHING, AT(6, 6, 0));
+    page("4 variables", LENT(SLICE(pallets), 4, NOTHING), &cursor, 8, REFUSED(9, 0), NOTHING, AT(6, 6, 0));
+    page("an unknown variable", LENT(SLICE(pallets), 1, NOTHING), &cursor, 8, REFUSED(11, 4), NOTHING, AT(6, 6, 0));
+
+    /* self::1 union child::2[. is $0], and with self::9 */
+    cursor = (gz_cursor){0};
+    struct lent branches = LENT(NUMBERS(0, 0, 0, 1, 0, 1, 0, 2, 12, 0, 0, 0, 5, 1, 2, 0, 2, 0, 3, 0), 1, NOTHING);
+    page("every node", branches, &cursor, 6, ACCEPTED(6, false), NUMBERS(0, 1, 2, 3, 4, 5), AT(5, 0, 0));
+    cursor = (gz_cursor){0};
+    struct lent one_branch = LENT(NUMBERS(0, 0, 0, 9, 0, 1, 0, 2, 12, 0, 0, 0, 5, 1, 2, 0, 2, 0, 3, 0), 1, NOTHING);
+    page("the first bay", one_branch, &cursor, 1, ACCEPTED(1, true), NUMBERS(1), AT(1, 0, 0));
+    page("the second bay", one_branch, &cursor, 1, ACCEPTED(1, false), NUMBERS(4), AT(4, 0, 0));
+
+    /* a third variable, which plays no part */
+    cursor = AT(1, 2, 4);
+    struct lent three = LENT(SLICE(pallets), 3, NOTHING);
+    page("three variables", three, &cursor, 8, ACCEPTED(2, true), NUMBERS(1, 2, 5, 1, 3, 0), AT(1, 3, 0));
+}
+
+/* Names. */
+
+static const uint8_t house[] = "\5store\4hall\3bay", site[] = "\6pallet";
+#define TABLE(a) a, sizeof(a) - 1
+
+static void name(const char *what, const uint8_t *h, size_t h_len, const uint8_t *s, size_t s_len, uint16_t tag, uint16_t number,
+                 uint16_t place, const uint8_t *start, size_t length)
+{
+    struct {
+        uint64_t before;
+        gz_part part;
+        uint64_t behind;
+    } out = {PATTERN, {site, 3}, PATTERN};
+    gz_reply r = gz_name(h, h_len, s, s_len, tag, &out.part);
+    expect(r.number == number && r.place == place, "gz_name", what, "reply");
+    expect(out.part.start == start && out.part.length == length, "gz_name", what, "part");
+    expect(out.before == PATTERN && out.behind == PATTERN, "gz_name", what, "memory beside the part");
+}
+
+static void names(void)
+{
+    static const uint8_t zero[] = "\5store\0", long_name[] = "\41abcdefghijklmnopqrstuvwxyz0123456";
+    name("store", TABLE(house), TABLE(site), 0, 0, 0, house + 1, 5);
+    name("hall", TABLE(house), TABLE(site), 1, 0, 0, house + 7, 4);
+    name("bay", TABLE(house), TABLE(site), 2, 0, 0, house + 12, 3);
+    name("pallet", TABLE(house), TABLE(site), 3, 0, 0, site + 1, 6);
+    name("no house", NOTHING, TABLE(site), 0, 0, 0, site + 1, 6);
+    name("no such name", TABLE(house), TABLE(site), 4, 22, 0, house, 0);
+    name("tag 65534", TABLE(house), TABLE(site), 65534, 22, 0, house, 0);
+    name("no names", NOTHING, NOTHING, 0, 22, 0, NULL, 0);
+    name("a length of 0", TABLE(zero), TABLE(site), 0, 21, 0, zero, 0);
+    name("a length of 33", TABLE(long_name), TABLE(site), 0, 21, 0, long_name, 0);
+    name("a name past the end", TABLE(house), site, 6, 0, 21, 1, house, 0);
+    name("both tables", zero, 6 + 1, site, 6, 0, 21, 0, zero, 0);
+}
+
+int main(void)
+{
+    trees();
+    queries();
+    images();
+    relations();
+    pages();
+    names();
+    printf("%d compared, %d wrong\n", tried, failed);
+    return failed != 0;
+}

@@ -1,0 +1,162 @@
+// Calls every function of include/geznauri.h as a Rust program does, with no crates: each once accepted at least and once
+// refused. tests/boundary.c has more cases of each; here it is the declarations that are tried. The tables are of the
+// teaching warehouse, and all expected results are worked out by hand. A difference ends the program with a panic.
+use std::mem::{offset_of, size_of};
+
+#[repr(C)]
+#[derive(Clone, Copy, Debug, PartialEq)]
+struct Reply {
+    number: u16,
+    place: u16,
+}
+
+#[repr(C)]
+#[derive(Clone, Copy, Debug, PartialEq)]
+struct PageReply {
+    number: u16,
+    place: u16,
+    count: usize,
+    more: bool,
+}
+
+#[repr(C)]
+#[derive(Clone, Copy, Debug, PartialEq)]
+struct Cursor {
+    begun: bool,
+    last: [u16; 3],
+}
+
+#[repr(C)]
+#[derive(Clone, Copy, Debug)]
+struct Part {
+    start: *const u8,
+    length: usize,
+}
+
+const _: () = assert!(size_of::<Reply>() == 4 && offset_of!(Reply, place) == 2);
+const _: () = assert!(size_of::<PageReply>() == 24 && offset_of!(PageReply, count) == 8 && offset_of!(PageReply, more) == 16);
+const _: () = assert!(size_of::<Cursor>() == 8 && offset_of!(Cursor, last) == 2);
+const _: () = assert!(size_of::<Part>() == 16 && offset_of!(Part, length) == 8);
+
+type Image = unsafe extern "C" fn(
+    *const u16, usize, *const u16, usize, u16, *const u16, usize, *const u8, usize, *mut u8, usize,
+) -> Reply;
+
+#[link(name = "terminal", kind = "static")]
+extern "C" {
+    fn gz_check_tree(tree: *const u16, tree_len: usize) -> Reply;
+    fn gz_check_query(query: *const u16, query_len: usize, columns: u16) -> Reply;
+    fn gz_forwards(
+        tree: *const u16, tree_len: usize, query: *const u16, query_len: usize, columns: u16, nodes: *const u16,
+        nodes_len: usize, from: *const u8, from_len: usize, to: *mut u8, to_len: usize,
+    ) -> Reply;
+    fn gz_backwards(
+        tree: *const u16, tree_len: usize, query: *const u16, query_len: usize, columns: u16, nodes: *const u16,
+        nodes_len: usize, from: *const u8, from_len: usize, to: *mut u8, to_len: usize,
+    ) -> Reply;
+    fn gz_pairs(
+        tree: *const u16, tree_len: usize, query: *const u16, query_len: usize, columns: u16, nodes: *const u16,
+        nodes_len: usize, table: *mut u8, table_len: usize,
+    ) -> Reply;
+    fn gz_page(
+        tree: *const u16, tree_len: usize, query: *const u16, query_len: usize, columns: u16, cursor: *mut Cursor,
+        rows: *mut u16, rows_len: usize,
+    ) -> PageReply;
+    fn gz_name(house: *const u8, house_len: usize, site: *const u8, site_len: usize, tag: u16, name: *mut Part) -> Reply;
+}
+
+// Safe forms: a slice is its pointer and its length.
+
+fn check_tree(tree: &[u16]) -> Reply {
+    unsafe { gz_check_tree(tree.as_ptr(), tree.len()) }
+}
+
+fn check_query(query: &[u16], columns: u16) -> Reply {
+    unsafe { gz_check_query(query.as_ptr(), query.len(), columns) }
+}
+
+fn image(f: Image, query: &[u16], nodes: &[u16], from: &[u8], to: &mut [u8]) -> Reply {
+    let (t, q) = (&WAREHOUSE, query);
+    unsafe {
+        f(t.as_ptr(), t.len(), q.as_ptr(), q.len(), nodes.len() as u16, nodes.as_ptr(), nodes.len(), from.as_ptr(), from.len(), to.as_mut_ptr(), to.len())
+    }
+}
+
+fn pairs(query: &[u16], nodes: &[u16], table: &mut [u8]) -> Reply {
+    let (t, q) = (&WAREHOUSE, query);
+    unsafe {
+        gz_pairs(t.as_ptr(), t.len(), q.as_ptr(), q.len(), nodes.len() as u16, nodes.as_ptr(), nodes.len(), table.as_mut_ptr(), table.len())
+    }
+}
+
+fn page(query: &[u16], columns: u16, cursor: &mut Cursor, rows: &mut [u16]) -> PageReply {
+    let (t, q) = (&WAREHOUSE, query);
+    unsafe { gz_page(t.as_ptr(), t.len(), q.as_ptr(), q.len(), columns, cursor, rows.as_mut_ptr(), rows.len()) }
+}
+
+// The part borrows from the table that holds it.
+fn name<'a>(house: &'a [u8], site: &'a [u8], tag: u16) -> (Reply, &'a [u8]) {
+    let mut part = Part { start: house.as_ptr(), length: 0 };
+    unsafe {
+        let reply = gz_name(house.as_ptr(), house.len(), site.as_ptr(), site.len(), tag, &mut part);
+        (reply, std::slice::from_raw_parts(part.start, part.length))
+    }
+}
+
+const WAREHOUSE: [u16; 12] = [65535, 1, 0, 2, 1, 3, 1, 3, 0, 2, 4, 3];
+// descendant::2[. is $0]/child::3[. is $1]
+const PALLETS: [u16; 28] = [0, 5, 0, 2, 12, 0, 0, 0, 5, 0, 1, 0, 0, 1, 0, 3, 12, 1, 0, 0, 5, 3, 4, 0, 1, 2, 5, 0];
+const FOLLOWING: [u16; 4] = [0, 7, 0, 65535];
+const CHILD: [u16; 4] = [0, 1, 0, 65535];
+const ACCEPTED: Reply = Reply { number: 0, place: 0 };
+
+fn refused(number: u16, place: u16) -> Reply {
+    Reply { number, place }
+}
+
+fn main() {
+    assert_eq!(check_tree(&WAREHOUSE), ACCEPTED);
+    assert_eq!(check_tree(&[]), refused(5, 0));
+    assert_eq!(check_tree(&[65535, 1, 1, 2]), refused(6, 1));
+    assert_eq!(check_query(&PALLETS, 2), ACCEPTED);
+    assert_eq!(check_query(&PALLETS, 1), refused(11, 4));
+
+    let mut set = [7; 8];
+    assert_eq!(image(gz_forwards, &FOLLOWING, &[], &[0, 0, 1, 0, 0, 0], &mut set), ACCEPTED);
+    assert_eq!(set, [0, 0, 0, 1, 1, 1, 7, 7]);
+    assert_eq!(image(gz_forwards, &FOLLOWING, &[], &[0, 0, 1, 2, 0, 0], &mut set), refused(19, 3));
+    assert_eq!(set, [0, 0, 0, 1, 1, 1, 7, 7]);
+    assert_eq!(image(gz_backwards, &PALLETS, &[1, 3], &[0, 0, 0, 1, 0, 0], &mut set), ACCEPTED);
+    assert_eq!(set, [1, 0, 0, 0, 0, 0, 7, 7]);
+    assert_eq!(image(gz_backwards, &PALLETS, &[1, 6], &[0, 0, 0, 1, 0, 0], &mut set), refused(17, 1));
+    assert_eq!(image(gz_backwards, &FOLLOWING, &[], &[0; 6], &mut set[..5]), refused(20, 0));
+    assert_eq!(set, [1, 0, 0, 0, 0, 0, 7, 7]);
+
+    let mut table = [7; 38];
+    assert_eq!(pairs(&CHILD, &[], &mut table[..35]), refused(20, 0));
+    assert_eq!(table, [7; 38]);
+    assert_eq!(pairs(&CHILD, &[], &mut table), ACCEPTED);
+    let mut children = [0; 38];
+    for (x, y) in [(0, 1), (0, 4), (1, 2), (1, 3), (4, 5)] {
+        children[x * 6 + y] = 1;
+    }
+    children[36..].fill(7);
+    assert_eq!(table, children);
+
+    let mut cursor = Cursor { begun: false, last: [0, 0, 9] };
+    let mut rows = [7; 5];
+    assert_eq!(page(&PALLETS, 2, &mut cursor, &mut rows), PageReply { number: 0, place: 0, count: 2, more: true });
+    assert_eq!((rows, cursor), ([1, 2, 1, 3, 7], Cursor { begun: true, last: [1, 3, 9] }));
+    assert_eq!(page(&PALLETS, 0, &mut cursor, &mut rows), PageReply { number: 9, place: 0, count: 0, more: false });
+    assert_eq!((rows, cursor), ([1, 2, 1, 3, 7], Cursor { begun: true, last: [1, 3, 9] }));
+    assert_eq!(page(&PALLETS, 2, &mut cursor, &mut rows), PageReply { number: 0, place: 0, count: 1, more: false });
+    assert_eq!((rows, cursor), ([4, 5, 1, 3, 7], Cursor { begun: true, last: [4, 5, 9] }));
+
+    let (house, site): (&[u8], &[u8]) = (b"\x05store\x04hall\x03bay", b"\x06pallet");
+    assert_eq!(name(house, site, 1), (ACCEPTED, &b"hall"[..]));
+    let (reply, pallet) = name(house, site, 3);
+    assert_eq!((reply, pallet, pallet.as_ptr()), (ACCEPTED, &b"pallet"[..], site[1..].as_ptr()));
+    let (reply, nothing) = name(house, site, 4);
+    assert_eq!((reply, nothing.len(), nothing.as_ptr()), (refused(22, 0), 0, house.as_ptr()));
+    assert_eq!(name(house, &site[..6], 0).0, refused(21, 1));
+}

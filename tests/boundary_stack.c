@@ -1,0 +1,124 @@
+/* The stack that a call takes is as include/geznauri.h has it: less than 8 KiB for a query of one level, and less than 4 KiB
+   for each further level of nesting. Calls run on a stack that was filled with a pattern; how much of the pattern is gone,
+   less what a thread takes that calls nothing, is what the call took. The tree has one node: frames are of one size for all
+   trees. */
+#define _GNU_SOURCE
+#include "geznauri.h"
+#include <pthread.h>
+#include <stdio.h>
+#include <stdlib.h>
+#include <string.h>
+
+#define PATTERN 0xA5
+#define SIZE ((size_t)1 << 20)
+
+static const uint16_t tree[] = {65535, 1};
+static uint16_t query[256];
+static size_t entries;
+
+static void entry(uint16_t kind, uint16_t left, uint16_t right, uint16_t tag)
+{
+    uint16_t *e = query + 4 * entries++;
+    e[0] = kind, e[1] = left, e[2] = right, e[3] = tag;
+}
+
+static void *nothing(void *unused)
+{
+    return unused;
+}
+
+static void accepted(uint16_t number)
+{
+    if (number != 0) {
+        printf("refused %u\n", number);
+        exit(1);
+    }
+}
+
+static void *all(void *unused)
+{
+    uint8_t from[1] = {1}, to[1];
+    uint16_t nodes[1] = {0}, rows[1];
+    gz_cursor cursor = {0};
+    accepted(gz_forwards(tree, 2, query, 4 * entries, 1, nodes, 1, from, 1, to, 1).number);
+    accepted(gz_backwards(tree, 2, query, 4 * entries, 1, nodes, 1, from, 1, to, 1).number);
+    accepted(gz_pairs(tree, 2, query, 4 * entries, 1, nodes, 1, to, 1).number);
+    accepted(gz_page(tree, 2, query, 4 * entries, 1, &cursor, rows, 1).number);
+    return unused;
+}
+
+static size_t taken(void *(*run)(void *))
+{
+    uint8_t *stack = aligned_alloc(4096, SIZE);
+    pthread_attr_t attributes;
+    pthread_t thread;
+    size_t left = 0;
+    if (stack == NULL)
+        exit(1);
+    memset(stack, PATTERN, SIZE);
+    if (pthread_attr_init(&attributes) != 0 || pthread_attr_setstack(&attributes, stack, SIZE) != 0)
+        exit(1);
+    if (pthread_create(&thread, &attributes, run, NULL) != 0 || pthread_join(thread, NULL) != 0)
+        exit(1);
+    while (left < SIZE && stack[left] == PATTERN)
+        left++;
+    free(stack);
+    return SIZE - left;
+}
+
+static int wrong;
+
+static void at_most(const char *what, size_t levels)
+{
+    size_t took = taken(all) - taken(nothing);
+    printf("%s, %zu levels: %zu bytes\n", what, levels, took);
+    if (took >= (levels + 1) * 4096)
+        wrong = 1;
+}
+
+int main(void)
+{
+    entries = 0;
+    entry(0, 0, 0, 65535);
+    at_most("one step", 1);
+
+    /* a path of kinds 0 and 7 */
+    entries = 0;
+    entry(0, 0, 0, 65535);
+    for (uint16_t e = 1; e < 64; e++)
+        entry(7, e - 1, 0, 0);
+    at_most("from the root", 64);
+
+    /* a filter with a node expression of kinds 8 and 9 */
+    entries = 0;
+    entry(0, 0, 0, 65535);
+    entry(8, 0, 0, 0);
+    for (uint16_t e = 2; e < 62; e++)
+        entry(9, e - 1, 0, 0);
+    entry(0, 0, 0, 65535);
+    entry(5, 62, 61, 0);
+    at_most("not", 63);
+
+    /* paths in filters: each level is a filter and a 'some' */
+    entries = 0;
+    entry(0, 0, 0, 65535);
+    for (uint16_t e = 1; e + 3 <= 64; e += 3) {
+        entry(8, e - 1, 0, 0);
+        entry(0, 0, 0, 65535);
+        entry(5, e + 1, e, 0);
+    }
+    at_most("filters in filters", 43);
+
+    /* kinds 1 to 4 with the nesting on either side */
+    for (uint16_t kind = 1; kind <= 4; kind++)
+        for (int side = 0; side < 2; side++) {
+            entries = 0;
+            entry(0, 0, 0, 65535);
+            for (uint16_t e = 1; e + 2 <= 64; e += 2) {
+                entry(0, 0, 0, 65535);
+                entry(kind, side ? e : e - 1, side ? e - 1 : e, 0);
+            }
+            at_most("paths of two operands", 32);
+        }
+    return wrong;
+}
