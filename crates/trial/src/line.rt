@@ -1,5 +1,8 @@
-// A line of the input: decimal numbers, parted by anything else, in parts that `|` ends; `#` starts a comment. A line that
-// is read is an array: how many numbers there are up to the end of each part, 8 parts at most, and then the numbers.
+// A line of the input: decimal numbers, parted by anything else, in parts that `|` ends; `#` starts a comment.
+use super::table;
+
+// A line as it is read: how many numbers there are up to the end of each part, 8 parts at most, and then the numbers.
+pub type Line = [usize; 1032];
 
 // How much of a line has been read: how many numbers are whole, in which part they stand, and the number that is open.
 struct Reading {
@@ -10,33 +13,33 @@ struct Reading {
     ended: bool,
 }
 
-fn put_end(line: &mut [usize; 1032], part: usize, count: usize) {
+fn put_end(line: &mut Line, part: usize, count: usize) {
     if part < 8 {
         line[part] = count;
     }
 }
 
-fn put_number(line: &mut [usize; 1032], k: usize, value: usize) {
+fn put_number(line: &mut Line, k: usize, value: usize) {
     if k < 1024 {
         line[8 + k] = value;
     }
 }
 
-fn end_of(line: &[usize; 1032], part: usize) -> usize {
+fn end_of(line: &Line, part: usize) -> usize {
     if part < 8 {
         return line[part];
     }
     0
 }
 
-fn start_of(line: &[usize; 1032], part: usize) -> usize {
+fn start_of(line: &Line, part: usize) -> usize {
     if part == 0 {
         return 0;
     }
     end_of(line, part - 1)
 }
 
-fn number_at(line: &[usize; 1032], k: usize) -> usize {
+fn number_at(line: &Line, k: usize) -> usize {
     if k < 1024 {
         return line[8 + k];
     }
@@ -44,12 +47,12 @@ fn number_at(line: &[usize; 1032], k: usize) -> usize {
 }
 
 // Number k of a part; 0 where the line has no such number.
-pub fn number(line: &[usize; 1032], part: usize, k: usize) -> usize {
+pub fn number(line: &Line, part: usize, k: usize) -> usize {
     number_at(line, std::num::wrapping_add_usize(start_of(line, part), k))
 }
 
 // How many numbers a part has.
-pub fn length(line: &[usize; 1032], part: usize) -> usize {
+pub fn length(line: &Line, part: usize) -> usize {
     let start = start_of(line, part);
     let end = end_of(line, part);
     if end < start {
@@ -75,7 +78,7 @@ fn shifted(value: usize, byte: u8) -> usize {
 }
 
 // A byte that is no digit ends the open number.
-fn closed(r: Reading, line: &mut [usize; 1032]) -> Reading {
+fn closed(r: Reading, line: &mut Line) -> Reading {
     if r.open {
         put_number(line, r.count, r.value);
         return Reading {
@@ -90,7 +93,7 @@ fn closed(r: Reading, line: &mut [usize; 1032]) -> Reading {
 }
 
 // A part ends, and the line too where asked.
-fn parted(r: Reading, line: &mut [usize; 1032], ended: bool) -> Reading {
+fn parted(r: Reading, line: &mut Line, ended: bool) -> Reading {
     put_end(line, r.part, r.count);
     Reading {
         count: r.count,
@@ -102,7 +105,7 @@ fn parted(r: Reading, line: &mut [usize; 1032], ended: bool) -> Reading {
 }
 
 // The reading one byte further.
-fn further(r: Reading, byte: u8, line: &mut [usize; 1032]) -> Reading {
+fn further(r: Reading, byte: u8, line: &mut Line) -> Reading {
     if r.ended {
         return r;
     }
@@ -126,7 +129,7 @@ fn further(r: Reading, byte: u8, line: &mut [usize; 1032]) -> Reading {
 }
 
 // Reads the line that starts at a place, and answers where the next one starts.
-pub fn read(text: &[u8], start: usize, line: &mut [usize; 1032]) -> usize {
+pub fn read(text: &[u8], start: usize, line: &mut Line) -> usize {
     let mut r = Reading {
         count: 0,
         part: 0,
@@ -147,21 +150,23 @@ pub fn read(text: &[u8], start: usize, line: &mut [usize; 1032]) -> usize {
     i
 }
 
-pub fn put_u16(table: &mut [u16; 1024], at: usize, value: usize) {
-    if at < 1024 {
-        if value < 65536 {
-            table[at] = value as u16;
-        }
+// Makes a part a table.
+pub fn copy(line: &Line, part: usize, to: &mut table::Table) {
+    let count = length(line, part);
+    table::set_length(to, count);
+    let mut k = 0;
+    while k < count {
+        table::put(to, k, number(line, part, k));
+        k += 1;
     }
 }
 
-// Writes a part to the front of a table, and answers how many numbers it has.
-pub fn copy_u16(line: &[usize; 1032], part: usize, table: &mut [u16; 1024]) -> usize {
+// Writes a part to the front of a buffer.
+pub fn copy_bytes(line: &Line, part: usize, to: &mut table::Set) {
     let count = length(line, part);
     let mut k = 0;
     while k < count {
-        put_u16(table, k, number(line, part, k));
+        table::put_byte(to, k, number(line, part, k));
         k += 1;
     }
-    count
 }

@@ -1,4 +1,7 @@
-// What was compared: the replies by their number (0 to 22), and sums.
+// What was compared.
+
+// The replies by their number (0 to 22), and the sums below.
+pub type Tally = [u64; 32];
 
 // The line of the input, and how many comparisons there were and failed, in all and in this part.
 const LINE: usize = 23;
@@ -11,27 +14,34 @@ const COMPARED_HERE: usize = 26;
 
 const FAILED_HERE: usize = 27;
 
-pub fn add(tally: &mut [u64; 32], at: usize, more: u64) {
+// How many nodes, pairs and rows were in the results.
+pub const NODES: usize = 28;
+
+pub const PAIRS: usize = 29;
+
+pub const ROWS: usize = 30;
+
+pub fn add(tally: &mut Tally, at: usize, more: u64) {
     if at < 32 {
         let sum = std::num::wrapping_add_u64(tally[at], more);
         tally[at] = sum;
     }
 }
 
-fn clear(tally: &mut [u64; 32], at: usize) {
+fn clear(tally: &mut Tally, at: usize) {
     if at < 32 {
         tally[at] = 0;
     }
 }
 
-fn sum_at(tally: &[u64; 32], at: usize) -> u64 {
+fn sum_at(tally: &Tally, at: usize) -> u64 {
     if at < 32 {
         return tally[at];
     }
     0
 }
 
-pub fn next_line(tally: &mut [u64; 32]) {
+pub fn next_line(tally: &mut Tally) {
     add(tally, LINE, 1);
 }
 
@@ -41,7 +51,7 @@ fn show_number(number: u64, then: &[u8]) {
 }
 
 // One comparison, and whether it held.
-pub fn expect(tally: &mut [u64; 32], holds: bool) {
+pub fn expect(tally: &mut Tally, holds: bool) {
     add(tally, COMPARED, 1);
     add(tally, COMPARED_HERE, 1);
     if holds {
@@ -55,14 +65,14 @@ pub fn expect(tally: &mut [u64; 32], holds: bool) {
 }
 
 // A reply compared with the number and the place that are due.
-pub fn expect_reply(tally: &mut [u64; 32], got: model::Reply, number: usize, place: usize) {
+pub fn expect_reply(tally: &mut Tally, got: model::Reply, number: usize, place: usize) {
     let due = model::wide(got.number);
     add(tally, due, 1);
     expect(tally, (due == number) & (model::wide(got.place) == place));
 }
 
 // The line for the part that ends here.
-pub fn show_part(tally: &mut [u64; 32]) {
+pub fn show_part(tally: &mut Tally) {
     show_number(sum_at(tally, COMPARED_HERE), b" compared, ");
     show_number(sum_at(tally, FAILED_HERE), b" failed\n");
     clear(tally, COMPARED_HERE);
@@ -70,7 +80,7 @@ pub fn show_part(tally: &mut [u64; 32]) {
 }
 
 // A line for the replies with a number, if there were any.
-fn show_reply(tally: &[u64; 32], number: usize) {
+fn show_reply(tally: &Tally, number: usize) {
     let count = sum_at(tally, number);
     if count == 0 {
         return;
@@ -80,7 +90,7 @@ fn show_reply(tally: &[u64; 32], number: usize) {
     show_number(count, b"\n");
 }
 
-fn show_replies(tally: &[u64; 32]) {
+fn show_replies(tally: &Tally) {
     let mut number = 0;
     while number < 23 {
         show_reply(tally, number);
@@ -88,8 +98,21 @@ fn show_replies(tally: &[u64; 32]) {
     }
 }
 
-pub fn show_all(tally: &[u64; 32]) {
+// A line for what the results held, if they held any.
+fn show_found(tally: &Tally, at: usize, name: &[u8]) {
+    let count = sum_at(tally, at);
+    if count == 0 {
+        return;
+    }
+    io::write_all(1, name);
+    show_number(count, b"\n");
+}
+
+pub fn show_all(tally: &Tally) {
     show_replies(tally);
+    show_found(tally, NODES, b"nodes in results: ");
+    show_found(tally, PAIRS, b"pairs in tables: ");
+    show_found(tally, ROWS, b"rows in pages: ");
     io::write_all(1, b"in all: ");
     show_number(sum_at(tally, COMPARED), b" compared, ");
     show_number(sum_at(tally, FAILED), b" failed\n");

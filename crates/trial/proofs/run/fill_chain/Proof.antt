@@ -5,10 +5,10 @@ use Rattle.trial.proofs.run.fill_chain.Statement.{statement}
 use Rattle.trial.proofs.run.fill_chain.Tie as tie
 
 abbrev Inv-loop : tie.InvT-loop
-Inv-loop table₀ x₀ table x = Unit {0}
+Inv-loop tree₀ x₀ tree x = Unit {0}
 
 abbrev μ-loop : tie.MeasureT-loop
-μ-loop table₀ x₀ table x = 512 - x
+μ-loop tree₀ x₀ tree x = 512 - x
 
 loop-holds : tie.Need-loop-holds Inv-loop μ-loop
 loop-holds c = search needs

@@ -5,10 +5,10 @@ use Rattle.trial.proofs.run.fill_nested.Statement.{statement}
 use Rattle.trial.proofs.run.fill_nested.Tie as tie
 
 abbrev Inv-loop : tie.InvT-loop
-Inv-loop table₀ e₀ table e = Unit {0}
+Inv-loop query₀ e₀ query e = Unit {0}
 
 abbrev μ-loop : tie.MeasureT-loop
-μ-loop table₀ e₀ table e = 256 - e
+μ-loop query₀ e₀ query e = 256 - e
 
 loop-holds : tie.Need-loop-holds Inv-loop μ-loop
 loop-holds c = search needs

@@ -1,14 +1,14 @@
--- `trial::line::copy_u16` is safe and ends.
+-- `trial::line::copy_bytes` is safe and ends.
 use Prim.Native.Nat.{_-_}
 use borrow.Author.Needs.{needs}
-use Rattle.trial.proofs.line.copy_u16.Statement.{statement}
-use Rattle.trial.proofs.line.copy_u16.Tie as tie
+use Rattle.trial.proofs.line.copy_bytes.Statement.{statement}
+use Rattle.trial.proofs.line.copy_bytes.Tie as tie
 
 abbrev Inv-loop : tie.InvT-loop
-Inv-loop line part table₀ count k₀ table k = Unit {0}
+Inv-loop line part to₀ count k₀ to k = Unit {0}
 
 abbrev μ-loop : tie.MeasureT-loop
-μ-loop line part table₀ count k₀ table k = count - k
+μ-loop line part to₀ count k₀ to k = count - k
 
 length-requires : tie.Need-length-requires Inv-loop μ-loop
 length-requires c κs = search needs
@@ -19,8 +19,8 @@ loop-holds c = search needs
 number-requires : tie.Need-number-requires Inv-loop μ-loop
 number-requires c κs = search needs
 
-put-u16-requires : tie.Need-put-u16-requires Inv-loop μ-loop
-put-u16-requires c κs = search needs
+put-byte-requires : tie.Need-put-byte-requires Inv-loop μ-loop
+put-byte-requires c κs = search needs
 
 add-k : tie.Need-add-k Inv-loop μ-loop
 add-k c = search needs
@@ -34,8 +34,8 @@ loop-again c = search needs
 returns : tie.Need-returns Inv-loop μ-loop
 returns c = search needs
 
-pub copy-u16-spec : {M : Type 1} → statement M
-copy-u16-spec =
+pub copy-bytes-spec : {M : Type 1} → statement M
+copy-bytes-spec =
     tie.close
     (tie.spec
     Inv-loop
@@ -43,7 +43,7 @@ copy-u16-spec =
     length-requires
     loop-holds
     number-requires
-    put-u16-requires
+    put-byte-requires
     add-k
     loop-less
     loop-again

@@ -1,0 +1,202 @@
+-- Laws of the job file.
+use Prim.Native.Nat.{ℕ, zero, suc, _+_, _-_, _*_, _≤_, _<_, max}
+use native.Mathlib.Numerals.{add-one}
+use native.Mathlib.Omega.{arith}
+use mathlib.Core.Path.{_≡_, refl, sym, ap, _∙_}
+use mathlib.Core.Bool.{Bool, true, false, not, _&&_}
+use mathlib.Core.List.{List, [], _∷_, _++_, append-assoc}
+use lib.ListN.{length, set, drop, getD, length-append, length-drop}
+use lib.Seq.{set-at, drop-cons}
+use lib.Dec.{ltb, leb, eqb}
+use borrow.Author.Tests.{ltb-true, ltb-false, lt-ltb, le-ltb, le-leb, leb-true, eq-eqb, eqb-true, eqb-false, not-true, ne-eqb}
+use Rattle.model.specs.Sets.{any}
+use Rattle.model.specs.Refusals.{reply, verdict}
+use Rattle.model.specs.declared.Reply.{Reply}
+use Rattle.model.proofs.Refusals.{numbered, Passes, accepted}
+use Rattle.model.proofs.Booleans.{Seen, yes!, no!, seen, bool-ext, both-yes, yes-left, yes-right, no-or}
+use Rattle.model.proofs.Exists.{any-intro, any-elim}
+use Rattle.job.specs.declared.Span.{Span}
+use Rattle.job.specs.declared.Job.{Job}
+use Rattle.job.specs.declared.Pointer.{Pointer}
+use Rattle.job.specs.declared.Trailer.{Trailer}
+use Rattle.job.specs.JobFile.{numberAt, numbers, trailerOf, badLength, spanOf, endOf, outside, holds, overlap, partChecks, fileChecks, refusedJob, jobOf}
+
+-- one number more at the end
+numbers-more : (f : List ℕ) (at n : ℕ) → numbers f at (suc n) ≡ numbers f at n ++ (numberAt f (at + 2 * n) ∷ [])
+unfolding numbers
+numbers-more f at zero = rw (here at)
+  where
+    here : (a : ℕ) → a + 0 ≡ a
+    here a = omega arith
+numbers-more f at (suc n) = ap (λ (l : List ℕ). numberAt f at ∷ l) (numbers-more f (at + 2) n ∙ ap (λ (k : ℕ). numbers f (at + 2) n ++ (numberAt f k ∷ [])) (over at n))
+  where
+    over : (a n : ℕ) → a + 2 + 2 * n ≡ a + 2 * suc n
+    over a n = omega arith
+
+length-numbers : (f : List ℕ) (at n : ℕ) → length (numbers f at n) ≡ n
+unfolding numbers
+length-numbers f at zero = refl
+length-numbers f at (suc n) = ap suc (length-numbers f (at + 2) n)
+
+-- the loop that writes them over the front of a list
+module _ (f : List ℕ) (at : ℕ) (d : List ℕ) where
+  pub none-written : d ≡ numbers f at 0 ++ drop 0 d
+  unfolding numbers
+  none-written = refl
+
+  pub one-written : (l : List ℕ) (i v : ℕ) → l ≡ numbers f at i ++ drop i d → v ≡ numberAt f (at + 2 * i) → i < length d → set l i v ≡ numbers f at (i + 1) ++ drop (i + 1) d
+  one-written l i v p q h =
+      rw (p, q, add-one i, drop-cons d i 0 h, numbers-more f at i)
+      (set-at (numbers f at i) (getD d i 0) (drop (suc i) d) (numberAt f (at + 2 * i)) i (length-numbers f at i)
+      ∙ sym (append-assoc (numbers f at i) (numberAt f (at + 2 * i) ∷ []) (drop (suc i) d)))
+
+  pub length-written : (l : List ℕ) (i : ℕ) → l ≡ numbers f at i ++ drop i d → i ≤ length d → length l ≡ length d
+  length-written l i p h = rw (p, length-append (numbers f at i) (drop i d), length-numbers f at i, length-drop i d) (omega arith)
+
+  pub all-written : (l : List ℕ) (i n : ℕ) → l ≡ numbers f at i ++ drop i d → i ≤ n → n ≤ i → l ≡ numbers f at n ++ drop n d
+  all-written l i n p a b = p ∙ ap (λ (k : ℕ). numbers f at k ++ drop k d) (let e : i ≡ n = omega arith in e)
+
+-- a part that is outside, and one that is not
+
+pub before-file : (n d : ℕ) (p : Pointer) → n < d → d ≡ p .distance → true ≡ outside n p
+unfolding outside
+before-file n d p h e = rw (lt-ltb n (p .distance) (omega arith))
+
+pub past-trailer : (n d : ℕ) (p : Pointer) (s : Span) → s ≡ spanOf n p → d ≤ n → d ≡ p .distance → ltb (n - 12) (endOf s) ≡ outside n p
+unfolding outside
+past-trailer n d p s q h e = rw (q, le-ltb n (p .distance) (omega arith))
+
+module _ (n : ℕ) (p : Pointer) (b : Bool) where
+  inside : b ≡ outside n p → b ≡ false → (ltb n (p .distance) ≡ false) × (ltb (n - 12) (endOf (spanOf n p)) ≡ false)
+  unfolding outside
+  inside e f = no-or (ltb n (p .distance)) (ltb (n - 12) (endOf (spanOf n p))) (sym e ∙ f)
+
+  pub starts-inside : b ≡ outside n p → b ≡ false → p .distance ≤ n
+  starts-inside e f = ltb-false n (p .distance) (inside e f .0)
+
+  ends-before : b ≡ outside n p → b ≡ false → endOf (spanOf n p) ≤ n - 12
+  ends-before e f = ltb-false (n - 12) (endOf (spanOf n p)) (inside e f .1)
+
+  pub ends-inside : (s : Span) → s ≡ spanOf n p → b ≡ outside n p → b ≡ false → endOf s ≤ n
+  ends-inside s q e f = rw q (let l : endOf (spanOf n p) ≤ n - 12 = ends-before e f in omega arith)
+
+all-four : (w x y z : Bool) → ((w && x) && (y && z)) ≡ true → (w ≡ true) × (x ≡ true) × (y ≡ true) × (z ≡ true)
+all-four w x y z h =
+    let l : (w && x) ≡ true = yes-left (w && x) (y && z) h in
+    let r : (y && z) ≡ true = yes-right (w && x) (y && z) h in
+    (yes-left w x l, yes-right w x l, yes-left y z r, yes-right y z r)
+
+-- a number is not 0
+some : (c : ℕ) → 0 < c → not (eqb c 0) ≡ true
+some c h = rw (ne-eqb c 0 (omega arith))
+
+some-is : (c : ℕ) → not (eqb c 0) ≡ true → 0 < c
+some-is c h = let z : c ≡ 0 → ⊥ = eqb-false c 0 (not-true (eqb c 0) h) in omega arith
+
+-- two parts share a byte exactly if each has one and begins before the other ends: then the later of their first bytes is in both
+pub overlap-is : (n : ℕ) (a b : Span) → endOf a ≤ n → endOf b ≤ n
+    → ((not (eqb (a .count) 0) && not (eqb (b .count) 0)) && (ltb (a .start) (endOf b) && ltb (b .start) (endOf a))) ≡ overlap n a b
+unfolding overlap
+overlap-is n a b p q = bool-ext ((not (eqb (a .count) 0) && not (eqb (b .count) 0)) && (ltb (a .start) (endOf b) && ltb (b .start) (endOf a)))
+    (any n (λ byte. holds a byte && holds b byte)) to from
+  where
+    to : ((not (eqb (a .count) 0) && not (eqb (b .count) 0)) && (ltb (a .start) (endOf b) && ltb (b .start) (endOf a))) ≡ true → any n (λ byte. holds a byte && holds b byte) ≡ true
+    to h =
+        let (x, y, u, v) = all-four (not (eqb (a .count) 0)) (not (eqb (b .count) 0)) (ltb (a .start) (endOf b)) (ltb (b .start) (endOf a)) h in
+        let x' : 0 < a .count = some-is (a .count) x in
+        let y' : 0 < b .count = some-is (b .count) y in
+        let u' : a .start < endOf b = ltb-true (a .start) (endOf b) u in
+        let v' : b .start < endOf a = ltb-true (b .start) (endOf a) v in
+        let m = max (a .start) (b .start) in
+        any-intro n (λ byte. holds a byte && holds b byte) m (omega arith)
+        (both-yes
+        (both-yes (le-leb (a .start) m (omega arith)) (lt-ltb m (endOf a) (omega arith)))
+        (both-yes (le-leb (b .start) m (omega arith)) (lt-ltb m (endOf b) (omega arith))))
+
+    from : any n (λ byte. holds a byte && holds b byte) ≡ true → ((not (eqb (a .count) 0) && not (eqb (b .count) 0)) && (ltb (a .start) (endOf b) && ltb (b .start) (endOf a))) ≡ true
+    from h =
+        let (m, l, e) = any-elim n (λ byte. holds a byte && holds b byte) h in
+        let (x, y, u, v) = all-four (leb (a .start) m) (ltb m (endOf a)) (leb (b .start) m) (ltb m (endOf b)) e in
+        let x' : a .start ≤ m = leb-true (a .start) m x in
+        let y' : m < endOf a = ltb-true m (endOf a) y in
+        let u' : b .start ≤ m = leb-true (b .start) m u in
+        let v' : m < endOf b = ltb-true m (endOf b) v in
+        both-yes (both-yes (some (a .count) (omega arith)) (some (b .count) (omega arith)))
+        (both-yes (lt-ltb (a .start) (endOf b) (omega arith)) (lt-ltb (b .start) (endOf a) (omega arith)))
+
+pub same-overlap : (n : ℕ) (p q : Pointer) (a b : Span) (r : Bool) → r ≡ overlap n a b → a ≡ spanOf n p → b ≡ spanOf n q → r ≡ overlap n (spanOf n p) (spanOf n q)
+same-overlap n p q a b r e x y = rw (x, y) at e
+
+-- the verdict on a file
+
+pub long-enough : (n : ℕ) → badLength n ≡ false → 12 ≤ n
+long-enough n h = ltb-false n 12 (no-or (ltb n 12) (ltb 4096 n) h .0)
+
+pub short-enough : (n : ℕ) → badLength n ≡ false → n ≤ 4096
+short-enough n h = ltb-false 4096 n (no-or (ltb n 12) (ltb 4096 n) h .1)
+
+module _ (file : List ℕ) (r : Reply) (t : Trailer) where
+  pub magic-wrong : r ≡ reply 2 0 → t ≡ trailerOf file → (t .magic ≡ 20564 → ⊥) → badLength (length file) ≡ false → r ≡ verdict (fileChecks file)
+  unfolding fileChecks verdict
+  magic-wrong e q m l = rw (l, ne-eqb (numberAt file (length file - 2)) 20564 (λ z. m (ap (λ (t : Trailer). t .magic) q ∙ z))) e
+
+  pub magic-right : t ≡ trailerOf file → t .magic ≡ 20564 → badLength (length file) ≡ false → r ≡ verdict (partChecks (length file) (t .tree) (t .query))
+      → r ≡ verdict (fileChecks file)
+  unfolding fileChecks verdict
+  magic-right q m l e =
+      rw (l, eq-eqb (numberAt file (length file - 2)) 20564 (ap (λ (t : Trailer). t .magic) (sym q) ∙ m)) (rw q at e)
+
+module _ (file : List ℕ) (r : Reply) (v : r ≡ verdict (fileChecks file)) where
+  pub refused-is : (r .number ≡ 0 → ⊥) → refusedJob r ≡ jobOf file
+  unfolding jobOf
+  refused-is z = rw (sym v, ne-eqb (r .number) 0 z)
+
+  module _ (z : r .number ≡ 0) where
+    pub accepted-is : (t : Trailer) (a b : Span) → t ≡ trailerOf file → a ≡ spanOf (length file) (t .tree) → b ≡ spanOf (length file) (t .query)
+        → _≡_ {A = Job} (record { reply = r; tree = a; query = b; columns = t .columns }) (jobOf file)
+    unfolding jobOf
+    accepted-is t a b q x y = rw (x, y, sym v, eq-eqb (r .number) 0 z, q)
+
+    checks : Passes (fileChecks file)
+    unfolding fileChecks partChecks numbered
+    checks = accepted (fileChecks file) refl (ap (λ (r : Reply). r .number) (sym v) ∙ z)
+
+    pub accepted-length : 12 ≤ length file
+    unfolding fileChecks partChecks Passes
+    accepted-length = long-enough (length file) (checks .0)
+
+    pub accepted-tree : (t : Trailer) → t ≡ trailerOf file → t .tree .distance ≤ length file
+    unfolding fileChecks partChecks Passes
+    accepted-tree t q = rw q (starts-inside (length file) (trailerOf file .tree) false (sym (checks .1 .1 .0)) refl)
+
+    pub accepted-query : (t : Trailer) → t ≡ trailerOf file → t .query .distance ≤ length file
+    unfolding fileChecks partChecks Passes
+    accepted-query t q = rw q (starts-inside (length file) (trailerOf file .query) false (sym (checks .1 .1 .1 .0)) refl)
+
+-- the parts of a file lie in it, and hold at most 2,042 numbers: what decoding them asks
+
+decodable : (n : ℕ) (p : Pointer) → badLength n ≡ false → outside n p ≡ false → (endOf (spanOf n p) ≤ n) × (p .count ≤ 2042)
+decodable n p l o =
+    let long : n ≤ 4096 = short-enough n l in
+    let ends : endOf (spanOf n p) ≤ n - 12 = ends-before n p false (sym o) refl in
+    (omega arith, omega arith)
+
+module _ (file : List ℕ) where
+  accepted-checks : eqb (verdict (fileChecks file) .number) 0 ≡ true → Passes (fileChecks file)
+  accepted-checks e = checks file (verdict (fileChecks file)) refl (eqb-true (verdict (fileChecks file) .number) 0 e)
+
+  pub tree-decodable : (endOf (jobOf file .tree) ≤ length file) × (jobOf file .tree .count ≤ 2042)
+  unfolding jobOf fileChecks partChecks Passes
+  tree-decodable = go (seen (eqb (verdict (fileChecks file) .number) 0))
+    where
+      go : Seen (eqb (verdict (fileChecks file) .number) 0) → (endOf (jobOf file .tree) ≤ length file) × (jobOf file .tree .count ≤ 2042)
+      go (yes! e) = let w = accepted-checks e in rw e (decodable (length file) (trailerOf file .tree) (w .0) (w .1 .1 .0))
+      go (no! e) = rw e (omega arith)
+
+  pub query-decodable : (endOf (jobOf file .query) ≤ length file) × (jobOf file .query .count ≤ 2042)
+  unfolding jobOf fileChecks partChecks Passes
+  query-decodable = go (seen (eqb (verdict (fileChecks file) .number) 0))
+    where
+      go : Seen (eqb (verdict (fileChecks file) .number) 0) → (endOf (jobOf file .query) ≤ length file) × (jobOf file .query .count ≤ 2042)
+      go (yes! e) = let w = accepted-checks e in rw e (decodable (length file) (trailerOf file .query) (w .0) (w .1 .1 .1 .0))
+      go (no! e) = rw e (omega arith)

@@ -1,0 +1,5 @@
+pub mod Files
+pub mod Writing
+pub mod Decimal
+pub mod Rows
+pub mod Worked

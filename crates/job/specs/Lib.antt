@@ -1,0 +1,2 @@
+pub mod JobFile
+pub mod Lines

@@ -1,0 +1,36 @@
+-- `picklist::print_end` is safe and ends: what was written is within the buffer.
+use mathlib.Core.Path.{sym}
+use lib.Seq.{length-take-le}
+use Rattle.picklist.proofs.Parts.{line-within}
+use borrow.Author.Needs.{needs}
+use Rattle.picklist.proofs.print_end.Statement.{statement}
+use Rattle.picklist.proofs.print_end.Tie as tie
+
+slice-aggregate-end-line : tie.Need-slice-aggregate-end-line
+slice-aggregate-end-line c = search needs
+
+end-line-requires : tie.Need-end-line-requires
+end-line-requires c κs = search needs
+
+array-share-prefix-out : tie.Need-array-share-prefix-out
+array-share-prefix-out c = line-within _ _ _ _ (c .before .end-line .ensures) (c .before .end-line .kept .0)
+
+slice-aggregate-write-all : tie.Need-slice-aggregate-write-all
+slice-aggregate-write-all c = sym (length-take-le _ _ (array-share-prefix-out (c .before)))
+
+write-all-requires : tie.Need-write-all-requires
+write-all-requires c κs = search needs
+
+returns : tie.Need-returns
+returns c = search needs
+
+pub print-end-spec : {M : Type 1} → statement M
+print-end-spec =
+    tie.close
+    (tie.spec
+    slice-aggregate-end-line
+    end-line-requires
+    array-share-prefix-out
+    slice-aggregate-write-all
+    write-all-requires
+    returns)

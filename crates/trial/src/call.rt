@@ -1,0 +1,153 @@
+// Calls of an evaluation, each with a buffer that is filled with a pattern: the reply is compared with the one that is due,
+// and the buffer afterwards with the bytes that are due.
+use super::line;
+use super::table;
+use super::tally;
+
+// The services.
+pub const FORWARDS: usize = 0;
+
+pub const BACKWARDS: usize = 1;
+
+pub const PAIRS: usize = 2;
+
+// What fills a buffer before a call: no byte that a service writes.
+pub const PATTERN: u8 = 7;
+
+// A call: what is lent beside the tables (the number of variables, how much of the set and how much of the buffer), and
+// the reply that is due.
+pub struct Call {
+    pub service: usize,
+    pub columns: usize,
+    pub set: usize,
+    pub room: usize,
+    pub number: usize,
+    pub place: usize,
+}
+
+// A reply that no service gives.
+pub fn no_reply() -> model::Reply {
+    model::Reply {
+        number: 65535,
+        place: 65535,
+    }
+}
+
+fn serve(
+    c: Call,
+    tree: &[u16],
+    query: &[u16],
+    nodes: &[u16],
+    set: &[u8],
+    to: &mut [u8],
+) -> model::Reply {
+    if c.service == FORWARDS {
+        return images::forwards(tree, query, c.columns, nodes, set, to);
+    }
+    if c.service == BACKWARDS {
+        return images::backwards(tree, query, c.columns, nodes, set, to);
+    }
+    images::pairs(tree, query, c.columns, nodes, to)
+}
+
+// Lends the fronts of the set and of the buffer.
+fn lend(
+    c: Call,
+    tree: &[u16],
+    query: &[u16],
+    nodes: &[u16],
+    set: &[u8],
+    to: &mut [u8],
+) -> model::Reply {
+    let length = c.set;
+    let room = c.room;
+    if set.len() < length {
+        return no_reply();
+    }
+    if to.len() < room {
+        return no_reply();
+    }
+    serve(c, tree, query, nodes, &set[0..length], &mut to[0..room])
+}
+
+// The buffers agree, up to 64 bytes beyond the room that was lent.
+fn agree(to: &[u8], due: &[u8], room: usize) -> bool {
+    let end = std::num::wrapping_add_usize(room, 64);
+    if to.len() < end {
+        return false;
+    }
+    if due.len() < end {
+        return false;
+    }
+    check::same(&to[0..end], &due[0..end])
+}
+
+fn compare(
+    tally: &mut tally::Tally,
+    c: Call,
+    tree: &table::Table,
+    query: &table::Table,
+    nodes: &table::Table,
+    set: &[u8],
+    to: &mut [u8],
+    due: &[u8],
+) {
+    let t = table::numbers(tree);
+    let q = table::numbers(query);
+    let k = table::numbers(nodes);
+    let got = lend(c, t, q, k, set, to);
+    tally::expect_reply(tally, got, c.number, c.place);
+    tally::expect(tally, agree(to, due, c.room));
+}
+
+// A call on a buffer for a set.
+pub fn compare_set(
+    tally: &mut tally::Tally,
+    c: Call,
+    tree: &table::Table,
+    query: &table::Table,
+    nodes: &table::Table,
+    set: &table::Set,
+    due: &table::Set,
+) {
+    let mut to = [PATTERN; 512];
+    compare(tally, c, tree, query, nodes, set, &mut to, due);
+}
+
+// A call on a buffer for a table of pairs.
+pub fn compare_pairs(
+    tally: &mut tally::Tally,
+    c: Call,
+    tree: &table::Table,
+    query: &table::Table,
+    nodes: &table::Table,
+    due: &table::Cells,
+) {
+    let mut to = [PATTERN; 66560];
+    compare(tally, c, tree, query, nodes, b"", &mut to, due);
+}
+
+// A line of the input: SERVICE NUMBER PLACE | COLUMNS ROOM | NODES | SET | BYTES, where BYTES are due at the buffer's front.
+pub fn run(
+    tally: &mut tally::Tally,
+    tree: &table::Table,
+    query: &table::Table,
+    line: &line::Line,
+    service: usize,
+) {
+    let mut nodes = [0u16; 1025];
+    let mut set = [0u8; 512];
+    let mut due = [PATTERN; 512];
+    line::copy(line, 2, &mut nodes);
+    line::copy_bytes(line, 3, &mut set);
+    line::copy_bytes(line, 4, &mut due);
+    let c = Call {
+        service: service,
+        columns: line::number(line, 1, 0),
+        set: line::length(line, 3),
+        room: line::number(line, 1, 1),
+        number: line::number(line, 0, 0),
+        place: line::number(line, 0, 1),
+    };
+    compare_set(tally, c, tree, query, &nodes, &set, &due);
+}

@@ -1,0 +1,121 @@
+#!/usr/bin/env python3
+"""Makes the job files of this folder. They are kept beside it, so nobody needs to run it; it is here to be read."""
+import os
+import struct
+
+ROOT_PARENT, ANY = 65535, 65535
+HALL, BAY, PALLET, AISLE, DAMAGE = 1, 2, 3, 4, 5
+
+# axes
+SELF, CHILD, DESCENDANT, FOLLOWING_SIBLING = 0, 1, 5, 9
+
+# kinds of entries
+STEP, COMPOSE, UNION, INTERSECT, EXCEPT, FILTER, SOME, IS = 0, 1, 2, 3, 4, 5, 8, 12
+
+
+def packed(numbers):
+    """Numbers as bytes: little-endian, 16 bits each."""
+    return struct.pack("<%dH" % len(numbers), *numbers)
+
+
+def job(tree, query, columns):
+    """A job file: the tree, the query, and the trailer, whose distances count back from the end of the file."""
+    end = 12
+    query_distance = end + 2 * len(query)
+    tree_distance = query_distance + 2 * len(tree)
+    trailer = [tree_distance, len(tree), query_distance, len(query), columns, 20564]
+    return packed(tree) + packed(query) + packed(trailer)
+
+
+def table(shape):
+    """The tree table of (tag, child, child, ..), numbered in document order."""
+    numbers = []
+
+    def add(node, parent):
+        me = len(numbers) // 2
+        numbers.extend([parent, node[0]])
+        for child in node[1:]:
+            add(child, me)
+
+    add(shape, ROOT_PARENT)
+    return numbers
+
+
+def entries(*rows):
+    """The query table of its entries: kind, left, right, tag."""
+    return [number for row in rows for number in row]
+
+
+# The teaching warehouse: a bay with two pallets, and a bay with one.
+TEACHING = table((HALL, (BAY, (PALLET,), (PALLET,)), (BAY, (PALLET,))))
+
+# descendant::bay[. is $0]/child::pallet[. is $1]
+BAYS_AND_PALLETS = entries(
+    (STEP, DESCENDANT, 0, BAY),
+    (IS, 0, 0, 0),
+    (FILTER, 0, 1, 0),
+    (STEP, CHILD, 0, PALLET),
+    (IS, 1, 0, 0),
+    (FILTER, 3, 4, 0),
+    (COMPOSE, 2, 5, 0),
+)
+
+# child::bay[. is $0] union descendant::pallet[. is $1]: in either branch one variable plays no part, and takes every node
+EITHER = entries(
+    (STEP, CHILD, 0, BAY),
+    (IS, 0, 0, 0),
+    (FILTER, 0, 1, 0),
+    (STEP, DESCENDANT, 0, PALLET),
+    (IS, 1, 0, 0),
+    (FILTER, 3, 4, 0),
+    (UNION, 2, 5, 0),
+)
+
+
+def aisle(*bays):
+    """An aisle; each bay is a word with a letter a pallet, `d` for a damaged one and `p` for a sound one."""
+    pallet = {"p": (PALLET,), "d": (PALLET, (DAMAGE,))}
+    return (AISLE,) + tuple((BAY,) + tuple(pallet[letter] for letter in bay) for bay in bays)
+
+
+# Three aisles: 39 nodes.
+AISLES = table((HALL, aisle("ppd", "p", "dd", ""), aisle("pdp", "dpp"), aisle("pppp", "d", "pd")))
+
+# descendant::bay[. is $0]/((child::pallet except child::pallet[child::damage]) intersect
+# child::pallet[following-sibling::pallet])[. is $1]: the sound pallets that have another pallet to their right
+SOUND_AND_NOT_LAST = entries(
+    (STEP, DESCENDANT, 0, BAY),
+    (IS, 0, 0, 0),
+    (FILTER, 0, 1, 0),
+    (STEP, CHILD, 0, PALLET),
+    (STEP, CHILD, 0, PALLET),
+    (STEP, CHILD, 0, DAMAGE),
+    (SOME, 5, 0, 0),
+    (FILTER, 4, 6, 0),
+    (EXCEPT, 3, 7, 0),
+    (STEP, CHILD, 0, PALLET),
+    (STEP, FOLLOWING_SIBLING, 0, PALLET),
+    (SOME, 10, 0, 0),
+    (FILTER, 9, 11, 0),
+    (INTERSECT, 8, 12, 0),
+    (IS, 1, 0, 0),
+    (FILTER, 13, 14, 0),
+    (COMPOSE, 2, 15, 0),
+)
+
+# Node 1 says that it is its own parent.
+OWN_PARENT = [ROOT_PARENT, HALL, 1, BAY, 1, PALLET]
+
+# Each job by its name: tree, query, number of columns.
+JOBS = {
+    "warehouse": (TEACHING, BAYS_AND_PALLETS, 2),
+    "either": (TEACHING, EITHER, 2),
+    "refused": (OWN_PARENT, BAYS_AND_PALLETS, 2),
+    "aisles": (AISLES, SOUND_AND_NOT_LAST, 2),
+}
+
+if __name__ == "__main__":
+    folder = os.path.dirname(os.path.abspath(__file__))
+    for name, parts in JOBS.items():
+        with open(os.path.join(folder, name + ".job"), "wb") as file:
+            file.write(job(*parts))

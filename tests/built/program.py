@@ -1,0 +1,263 @@
+#!/usr/bin/env python3
+"""The program that rt ci built, run on the examples and on a table of jobs, sound and damaged, and held to every byte that it
+should print. What a damaged job is refused with is worked out by hand; the answers of a sound one come from the separate
+evaluator of tests/support, or are told by a formula."""
+import itertools, os, random, subprocess, sys
+sys.dont_write_bytecode = True
+HERE = os.path.dirname(os.path.abspath(__file__))
+sys.path[:0] = [os.path.join(HERE, "..", "support"), os.path.join(HERE, "..", "..", "examples")]
+import make, reference
+from repository import ROOT, end
+
+PROGRAM = os.path.join(ROOT, "target", "bin", "picklist")
+EXAMPLES = os.path.join(ROOT, "examples")
+problems = []
+
+
+def printed(file, command=PROGRAM):
+    """What the program prints for a file."""
+    return subprocess.run([command], input=file, stdout=subprocess.PIPE, timeout=300).stdout
+
+
+def compare(name, got, wanted):
+    if got != wanted:
+        problems.append("%s: printed %r and not %r" % (name, got[:200], wanted[:200]))
+
+
+def refused(number, place=0):
+    return b"refused %d %d\n" % (number, place)
+
+
+def listed(rows):
+    """The lines of some rows."""
+    rows = list(rows)
+    lines = [" ".join(map(str, row)) for row in rows] + ["end %d" % len(rows)]
+    return "".join(line + "\n" for line in lines).encode()
+
+
+def answers(tree, query, columns):
+    """The rows of a pick list, by the separate evaluator."""
+    tree = reference.Tree(tree)
+    return [row for row in itertools.product(range(tree.n), repeat=columns) if any(reference.relation(tree, query, row))]
+
+
+def changed(numbers, at, *new):
+    """A table with other numbers from a place on."""
+    return numbers[:at] + list(new) + numbers[at + len(new) :]
+
+
+def entry(e, *fields):
+    """The query of the teaching warehouse with another entry e."""
+    return changed(QUERY, 4 * e, *fields)
+
+
+TREE, QUERY, _ = make.JOBS["warehouse"]
+ROWS = listed([(1, 2), (1, 3), (4, 5)])
+T, Q = make.packed(TREE), make.packed(QUERY)
+WHOLE = make.job(TREE, QUERY, 2)
+
+
+def file(body, tree_start, tree_count, query_start, query_count, columns=2, magic=20564):
+    """A file of any bytes and the trailer that says where its parts start; a start may lie before the file."""
+    size = len(body) + 12
+    return body + make.packed([size - tree_start, tree_count, size - query_start, query_count, columns, magic])
+
+
+def sized(size):
+    """The warehouse's job with ignored bytes between its parts and the trailer, so that the file has this size."""
+    return file(T + Q + bytes(size - 92), 0, 12, 24, 28)
+
+
+# Files and their parts: 1 to 4, and all the places where a part may lie.
+FILES = [
+    ("no bytes", b"", refused(1)),
+    ("11 bytes", WHOLE[-11:], refused(1)),
+    ("12 bytes, two empty parts before the trailer", file(b"", 0, 0, 0, 0), refused(5)),
+    ("4,096 bytes", sized(4096), ROWS),
+    ("4,097 bytes", sized(4097), refused(1)),
+    ("far too long", bytes(1 << 20), refused(1)),
+    ("a mark one too high, and a part before the file", file(T + Q, -1, 12, 24, 28, magic=20565), refused(2)),
+    ("a mark with its bytes swapped", WHOLE[:-2] + WHOLE[-1:] + WHOLE[-2:-1], refused(2)),
+    ("a mark that is not the last number", WHOLE + b"\0", refused(2)),
+    ("the tree a byte before the file", file(T + Q, -1, 12, 24, 28), refused(3, 0)),
+    ("the query a byte before the file", file(T + Q, 0, 12, -1, 28), refused(3, 1)),
+    ("both before the file", file(T + Q, -1, 12, -1, 28), refused(3, 0)),
+    ("an empty tree before the file", file(T + Q, -1, 0, 24, 28), refused(3, 0)),
+    ("the tree a byte into the trailer", file(Q + T, 57, 12, 0, 28), refused(3, 0)),
+    ("the query a number into the trailer", file(T + Q, 0, 12, 24, 29), refused(3, 1)),
+    ("the largest distance and count", file(T + Q, 92 - 65535, 65535, 24, 28), refused(3, 0)),
+    ("the largest count", file(T + Q, 0, 12, 24, 65535), refused(3, 1)),
+    ("an empty tree inside the trailer", file(T + Q, 81, 0, 24, 28), refused(3, 0)),
+    ("an empty query inside the trailer", file(T + Q, 0, 12, 90, 0), refused(3, 1)),
+    ("an empty query at the end of the file", file(T + Q, 0, 12, 92, 0), refused(3, 1)),
+    ("an empty query at the trailer's start", file(T + Q, 0, 12, 80, 0), refused(8)),
+    ("an overlap by one byte, the tree first", file(T[:-1] + Q, 0, 12, 23, 28), refused(4)),
+    ("an overlap by one byte, the query first", file(Q[:-1] + T, 55, 12, 0, 28), refused(4)),
+    ("both parts the same", file(T + Q, 0, 12, 0, 12), refused(4)),
+    ("the query inside the tree, both unsound", file(bytes(24), 0, 12, 8, 4), refused(4)),
+    ("an empty query inside the tree", file(T, 0, 12, 11, 0), refused(8)),
+    ("an empty tree inside the query", file(Q, 11, 0, 0, 28), refused(5)),
+    ("the query first", file(Q + T, 56, 12, 0, 28), ROWS),
+    ("odd offsets", file(b"\7" + T + Q + b"\7", 1, 12, 25, 28), ROWS),
+    ("ignored bytes everywhere", file(b"\1\2\3" + Q + b"\4\5\6\7" + T + b"\xff" * 9, 63, 12, 3, 28), ROWS),
+]
+
+# The tree, the query and the number of columns: 5 to 15.
+CHAIN = [65535, 1] + [n for k in range(256) for n in (k, 1)]
+STAR = [0, 0, 0, 65535]
+UNIONS = STAR + [n for k in range(32) for n in (STAR + [2, 2 * k, 2 * k + 1, 0])]
+TABLES = [
+    ("an empty tree", [], QUERY, 2, refused(5)),
+    ("a tree of odd length", TREE[:-1], QUERY, 2, refused(5)),
+    ("257 nodes", CHAIN, STAR, 1, refused(5)),
+    ("256 nodes", CHAIN[:-2], STAR, 1, listed((x,) for x in range(256))),
+    ("a root with a parent", changed(TREE, 0, 0), QUERY, 2, refused(6, 0)),
+    ("a node that is its own parent", changed(TREE, 2, 1), QUERY, 2, refused(6, 1)),
+    ("a parent off the path", changed(TREE, 10, 2), QUERY, 2, refused(6, 5)),
+    ("two bad parents and a bad tag before them", changed(changed(TREE, 3, 65535, 5), 10, 2), QUERY, 2, refused(6, 2)),
+    ("a tag of 65534", changed(TREE, 7, 65534), QUERY, 2, refused(7, 3)),
+    ("a tag of 65535 and a query of no entry", changed(TREE, 1, 65535), [], 2, refused(7, 0)),
+    ("a tag of 65533", changed(TREE, 1, 65533), QUERY, 2, ROWS),
+    ("an empty query", TREE, [], 2, refused(8)),
+    ("a query of no whole entries", TREE, QUERY[:-1], 2, refused(8)),
+    ("65 entries", TREE, UNIONS, 1, refused(8)),
+    ("64 entries", TREE, UNIONS[:-8] + [7, 62, 0, 0], 1, listed((x,) for x in range(6))),
+    ("no column", TREE, STAR, 0, refused(9)),
+    ("four columns and a bad kind", TREE, entry(0, 13, 0, 0, 0), 4, refused(9)),
+    ("a kind of 13", TREE, entry(3, 13, 0, 0, 0), 2, refused(10, 3)),
+    ("an axis of 13 before a kind of 13", TREE, changed(entry(0, 0, 13, 0, 2), 12, 13), 2, refused(10, 3)),
+    ("an axis of 13", TREE, entry(0, 0, 13, 0, 2), 2, refused(11, 0)),
+    ("a step's tag of 65534", TREE, entry(3, 0, 1, 0, 65534), 2, refused(11, 3)),
+    ("a column that is not there", TREE, QUERY, 1, refused(11, 4)),
+    ("a right field of a step", TREE, entry(3, 0, 1, 1, 3), 2, refused(11, 3)),
+    ("a right field of a column", TREE, entry(1, 12, 0, 1, 0), 2, refused(11, 1)),
+    ("a tag field of a composition", TREE, entry(6, 1, 2, 5, 1), 2, refused(11, 6)),
+    ("its own operand", TREE, entry(2, 5, 0, 2, 0), 2, refused(12, 2)),
+    ("a later operand", TREE, entry(2, 5, 3, 1, 0), 2, refused(12, 2)),
+    ("a path for a node test", TREE, entry(5, 5, 3, 0, 0), 2, refused(13, 5)),
+    ("a node test for a path", TREE, entry(6, 1, 1, 5, 0), 2, refused(13, 6)),
+    ("an operand used twice, and one never", TREE, entry(6, 1, 2, 2, 0), 2, refused(14, 2)),
+    ("an operand never used", TREE, STAR + STAR, 1, refused(14, 0)),
+    ("a node test for the query", TREE, [12, 0, 0, 0], 1, refused(15, 0)),
+    ("a node test for the query, last of two", TREE, STAR + [8, 0, 0, 0], 1, refused(15, 1)),
+]
+
+# Pick lists of more than one page, and of whole pages: every row, or those whose last column is the one node with the tag 9.
+NINE = [65535, 9] + [n for k in range(31) for n in (0, 1)]
+LONG = [
+    ("two columns, 256 nodes", CHAIN[:-2], STAR, 2, itertools.product(range(256), repeat=2)),
+    ("three columns, 40 nodes", CHAIN[:80], STAR, 3, itertools.product(range(40), repeat=3)),
+    ("three columns, one page of 1,024 rows", NINE, [0, 0, 0, 9, 12, 2, 0, 0, 5, 0, 1, 0], 3, itertools.product(range(32), range(32), [0])),
+    ("one node", [65535, 1], STAR, 3, [(0, 0, 0)]),
+    ("no row", TREE, [0, 0, 0, 9], 2, []),
+]
+
+
+def random_tree(source):
+    table, path = [65535, source.randrange(4)], [0]
+    for node in range(1, source.randint(1, 8)):
+        del path[source.randint(1, len(path)) :]
+        table += [path[-1], source.randrange(4)]
+        path.append(node)
+    return table
+
+
+def random_query(source, columns):
+    """A path of every kind, operands first, in the order that comes."""
+    table = []
+
+    def add(*fields):
+        table.extend(fields)
+        return len(table) // 4 - 1
+
+    def path(depth):
+        kind = source.randrange(8) if depth else source.choice([0, 0, 0, 6])
+        if kind == 0:
+            return add(0, source.randrange(13), 0, source.choice([0, 1, 2, 3, 65535, 65535]))
+        if kind < 5:
+            return add(kind, path(depth - 1), path(depth - 1), 0)
+        if kind == 5:
+            return add(5, path(depth - 1), test(depth - 1), 0)
+        return add(6, source.randrange(columns), 0, 0) if kind == 6 else add(7, path(depth - 1), 0, 0)
+
+    def test(depth):
+        kind = source.randrange(8, 13) if depth else 12
+        if kind == 8:
+            return add(8, path(depth - 1), 0, 0)
+        if kind == 9:
+            return add(9, test(depth - 1), 0, 0)
+        return add(kind, test(depth - 1), test(depth - 1), 0) if kind < 12 else add(12, source.randrange(columns), 0, 0)
+
+    path(4)
+    return table
+
+
+def random_file(source, tree, query, columns):
+    """The parts in either order, with ignored bytes around them."""
+    first, second = (tree, query) if source.random() < 0.5 else (query, tree)
+    gaps = [source.randbytes(source.randrange(6)) for _ in range(3)]
+    body = gaps[0] + make.packed(first) + gaps[1] + make.packed(second) + gaps[2]
+    starts = len(gaps[0]), len(gaps[0]) + 2 * len(first) + len(gaps[1])
+    at = starts if first is tree else starts[::-1]
+    return file(body, at[0], len(tree), at[1], len(query), columns)
+
+
+def random_jobs(count):
+    source = random.Random(2024)
+    while count:
+        tree, columns = random_tree(source), source.randint(1, 3)
+        query = random_query(source, columns)
+        if len(query) <= 256:
+            count -= 1
+            wanted = listed(answers(tree, query, columns))
+            compare("random job %d" % count, printed(random_file(source, tree, query, columns)), wanted)
+
+
+def examples():
+    """The examples are what their script makes, and print what stands beside them, by ./picklist too."""
+    for name, (tree, query, columns) in make.JOBS.items():
+        with open(os.path.join(EXAMPLES, name + ".job"), "rb") as job, open(os.path.join(EXAMPLES, name + ".out"), "rb") as out:
+            job, out = job.read(), out.read()
+        compare("make.py, %s" % name, make.job(tree, query, columns), job)
+        compare("the example %s" % name, printed(job), out)
+        compare("./picklist on the example %s" % name, printed(job, os.path.join(ROOT, "picklist")), out)
+        compare("the evaluator on %s" % name, refused(6, 1) if name == "refused" else listed(answers(tree, query, columns)), out)
+    made = {name + suffix for name in make.JOBS for suffix in (".job", ".out")} | {"make.py", "README.md"}
+    if set(os.listdir(EXAMPLES)) != made:
+        problems.append("examples/ and make.py do not have the same jobs")
+
+
+def fed(file, step, closes=True):
+    """What the program prints where its input comes in small writes, on a pipe that is closed behind them or stays open."""
+    run = subprocess.Popen([PROGRAM], stdin=subprocess.PIPE, stdout=subprocess.PIPE, bufsize=0)
+    for at in range(0, len(file), step):
+        run.stdin.write(file[at : at + step])
+    if closes:
+        run.stdin.close()
+    text = run.stdout.read()
+    run.stdin.close()
+    run.wait(timeout=300)
+    return text
+
+
+def inputs():
+    for step in 1, 7, 91:
+        compare("a pipe, %d bytes at a time" % step, fed(WHOLE, step), ROWS)
+    compare("a pipe of 4,096 bytes, 5 at a time", fed(sized(4096), 5), ROWS)
+    compare("a pipe of 4,097 bytes that stays open", fed(sized(4097), 1000, closes=False), refused(1))
+    closed = subprocess.run(["sh", "-c", 'exec "$0" <&-', PROGRAM], stdout=subprocess.PIPE, timeout=300)
+    compare("a closed input", closed.stdout, refused(1))
+    folder = subprocess.run(["sh", "-c", 'exec "$0" <.', PROGRAM], stdout=subprocess.PIPE, timeout=300)
+    compare("an input that cannot be read", folder.stdout, refused(1))
+
+
+for name, bytes_of, wanted in FILES:
+    compare(name, printed(bytes_of), wanted)
+for name, tree, query, columns, wanted in TABLES:
+    compare(name, printed(make.job(tree, query, columns)), wanted)
+for name, tree, query, columns, rows in LONG:
+    compare(name, printed(make.job(tree, query, columns)), listed(rows))
+examples()
+inputs()
+random_jobs(60)
+end(problems)
