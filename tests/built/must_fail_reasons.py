@@ -8,7 +8,7 @@ from repository import ROOT, end, read
 
 # an error, or a note that has a place: the latter comes first for a function that is proved with no file
 COMPLAINT = re.compile(r"^(?:\S+: error: |note: \S+:\d+:\d+: )(.*)", re.M)
-UNFIT = re.compile(r"that can be named from here|expected type `tie\.Need-")
+UNFIT = re.compile(r"that can be named from here|expected type `tie\.Need-|has no field")
 
 problems = []
 for edit in sorted(glob.glob(os.path.join(ROOT, "crates", "*", "must-fail", "*.edit"))):
