@@ -106,7 +106,7 @@ SOUND_AND_NOT_LAST = entries(
 # Node 1 says that it is its own parent.
 OWN_PARENT = [ROOT_PARENT, HALL, 1, BAY, 1, PALLET]
 
-# Each job by its name: tree, query, number of columns.
+# Each job by its name: tree, query, number of variables.
 JOBS = {
     "warehouse": (TEACHING, BAYS_AND_PALLETS, 2),
     "either": (TEACHING, EITHER, 2),

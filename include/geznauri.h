@@ -202,8 +202,8 @@ typedef struct {
 } gz_page_reply;
 
 /* Where a caller stands in the answers of a query: whether it has begun, and the last row given, one node for each variable.
-   All zero is a fresh cursor. While begun is false, last may hold anything; numbers of last at or above the number of
-   variables may always hold anything, and are kept. */
+   All zero is a fresh cursor. begun is a proper bool, 0 or 1. While it is false, last may hold anything; numbers of last at or
+   above the number of variables may always hold anything, and are kept. */
 typedef struct {
     bool begun;
     uint16_t last[3];

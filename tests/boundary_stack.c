@@ -78,9 +78,13 @@ static void at_most(const char *what, size_t levels)
 
 int main(void)
 {
-    entries = 0;
-    entry(0, 0, 0, 65535);
-    at_most("one step", 1);
+    /* every axis, with the star and with a tag */
+    for (uint16_t axis = 0; axis <= 12; axis++)
+        for (uint32_t tag = 1; tag <= 65535; tag += 65534) {
+            entries = 0;
+            entry(0, axis, 0, (uint16_t)tag);
+            at_most("one step", 1);
+        }
 
     /* a path of kinds 0 and 7 */
     entries = 0;

@@ -36,7 +36,7 @@ def listed(rows):
 
 
 def answers(tree, query, columns):
-    """The rows of a pick list, by the separate evaluator."""
+    """The answers of a query, by the separate evaluator."""
     tree = reference.Tree(tree)
     return [row for row in itertools.product(range(tree.n), repeat=columns) if any(reference.relation(tree, query, row))]
 
@@ -76,9 +76,9 @@ FILES = [
     ("4,096 bytes", sized(4096), ROWS),
     ("4,097 bytes", sized(4097), refused(1)),
     ("far too long", bytes(1 << 20), refused(1)),
-    ("a mark one too high, and a part before the file", file(T + Q, -1, 12, 24, 28, magic=20565), refused(2)),
-    ("a mark with its bytes swapped", WHOLE[:-2] + WHOLE[-1:] + WHOLE[-2:-1], refused(2)),
-    ("a mark that is not the last number", WHOLE + b"\0", refused(2)),
+    ("a magic number one too high, and a part before the file", file(T + Q, -1, 12, 24, 28, magic=20565), refused(2)),
+    ("a magic number with its bytes swapped", WHOLE[:-2] + WHOLE[-1:] + WHOLE[-2:-1], refused(2)),
+    ("a magic number that is not the last number", WHOLE + b"\0", refused(2)),
     ("the tree a byte before the file", file(T + Q, -1, 12, 24, 28), refused(3, 0)),
     ("the query a byte before the file", file(T + Q, 0, 12, -1, 28), refused(3, 1)),
     ("both before the file", file(T + Q, -1, 12, -1, 28), refused(3, 0)),
@@ -102,7 +102,7 @@ FILES = [
     ("ignored bytes everywhere", file(b"\1\2\3" + Q + b"\4\5\6\7" + T + b"\xff" * 9, 63, 12, 3, 28), ROWS),
 ]
 
-# The tree, the query and the number of columns: 5 to 15.
+# The tree, the query and the number of variables: 5 to 15.
 CHAIN = [65535, 1] + [n for k in range(256) for n in (k, 1)]
 STAR = [0, 0, 0, 65535]
 UNIONS = STAR + [n for k in range(32) for n in (STAR + [2, 2 * k, 2 * k + 1, 0])]
@@ -122,32 +122,32 @@ TABLES = [
     ("a query of no whole entries", TREE, QUERY[:-1], 2, refused(8)),
     ("65 entries", TREE, UNIONS, 1, refused(8)),
     ("64 entries", TREE, UNIONS[:-8] + [7, 62, 0, 0], 1, listed((x,) for x in range(6))),
-    ("no column", TREE, STAR, 0, refused(9)),
-    ("four columns and a bad kind", TREE, entry(0, 13, 0, 0, 0), 4, refused(9)),
+    ("no variable", TREE, STAR, 0, refused(9)),
+    ("four variables and a bad kind", TREE, entry(0, 13, 0, 0, 0), 4, refused(9)),
     ("a kind of 13", TREE, entry(3, 13, 0, 0, 0), 2, refused(10, 3)),
     ("an axis of 13 before a kind of 13", TREE, changed(entry(0, 0, 13, 0, 2), 12, 13), 2, refused(10, 3)),
     ("an axis of 13", TREE, entry(0, 0, 13, 0, 2), 2, refused(11, 0)),
     ("a step's tag of 65534", TREE, entry(3, 0, 1, 0, 65534), 2, refused(11, 3)),
-    ("a column that is not there", TREE, QUERY, 1, refused(11, 4)),
+    ("a variable that is not there", TREE, QUERY, 1, refused(11, 4)),
     ("a right field of a step", TREE, entry(3, 0, 1, 1, 3), 2, refused(11, 3)),
-    ("a right field of a column", TREE, entry(1, 12, 0, 1, 0), 2, refused(11, 1)),
+    ("a right field of a variable", TREE, entry(1, 12, 0, 1, 0), 2, refused(11, 1)),
     ("a tag field of a composition", TREE, entry(6, 1, 2, 5, 1), 2, refused(11, 6)),
     ("its own operand", TREE, entry(2, 5, 0, 2, 0), 2, refused(12, 2)),
     ("a later operand", TREE, entry(2, 5, 3, 1, 0), 2, refused(12, 2)),
-    ("a path for a node test", TREE, entry(5, 5, 3, 0, 0), 2, refused(13, 5)),
-    ("a node test for a path", TREE, entry(6, 1, 1, 5, 0), 2, refused(13, 6)),
+    ("a path for a node expression", TREE, entry(5, 5, 3, 0, 0), 2, refused(13, 5)),
+    ("a node expression for a path", TREE, entry(6, 1, 1, 5, 0), 2, refused(13, 6)),
     ("an operand used twice, and one never", TREE, entry(6, 1, 2, 2, 0), 2, refused(14, 2)),
     ("an operand never used", TREE, STAR + STAR, 1, refused(14, 0)),
-    ("a node test for the query", TREE, [12, 0, 0, 0], 1, refused(15, 0)),
-    ("a node test for the query, last of two", TREE, STAR + [8, 0, 0, 0], 1, refused(15, 1)),
+    ("a node expression for the query", TREE, [12, 0, 0, 0], 1, refused(15, 0)),
+    ("a node expression for the query, last of two", TREE, STAR + [8, 0, 0, 0], 1, refused(15, 1)),
 ]
 
-# Pick lists of more than one page, and of whole pages: every row, or those whose last column is the one node with the tag 9.
+# Answers of more than one page, and of whole pages: every row, or those whose last variable is the one node with the tag 9.
 NINE = [65535, 9] + [n for k in range(31) for n in (0, 1)]
 LONG = [
-    ("two columns, 256 nodes", CHAIN[:-2], STAR, 2, itertools.product(range(256), repeat=2)),
-    ("three columns, 40 nodes", CHAIN[:80], STAR, 3, itertools.product(range(40), repeat=3)),
-    ("three columns, one page of 1,024 rows", NINE, [0, 0, 0, 9, 12, 2, 0, 0, 5, 0, 1, 0], 3, itertools.product(range(32), range(32), [0])),
+    ("two variables, 256 nodes", CHAIN[:-2], STAR, 2, itertools.product(range(256), repeat=2)),
+    ("three variables, 40 nodes", CHAIN[:80], STAR, 3, itertools.product(range(40), repeat=3)),
+    ("three variables, one page of 1,024 rows", NINE, [0, 0, 0, 9, 12, 2, 0, 0, 5, 0, 1, 0], 3, itertools.product(range(32), range(32), [0])),
     ("one node", [65535, 1], STAR, 3, [(0, 0, 0)]),
     ("no row", TREE, [0, 0, 0, 9], 2, []),
 ]

@@ -31,8 +31,7 @@ def faults(lines):
 
 
 problems, listed = [], crates()
-wanted = {(crate, name) for crate, name, later in services() if not later}
-problems += ["tests/services.txt: %s is listed in crates.txt, so its lines are no longer 'later'" % c for c, _, later in services() if later and c in listed]
+wanted = set(services())
 for crate in listed:
     for public, exported, name, lines in functions(crate):
         if exported or (crate, name) in wanted:

@@ -36,11 +36,11 @@ def crates():
 
 
 def services():
-    """The lines of tests/services.txt: crate, function, and whether the crate is still to come."""
+    """The lines of tests/services.txt: crate and function."""
     for line in uncommented(read("tests/services.txt"), "#"):
         words = line.split()
         if words:
-            yield words[-2], words[-1], words[0] == "later"
+            yield words[0], words[1]
 
 
 def word(name):

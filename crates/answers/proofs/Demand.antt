@@ -20,13 +20,13 @@ use Rattle.model.specs.Checks.{pageChecks}
 use Rattle.model.proofs.Booleans.{Seen, yes!, no!, seen, no-yes}
 use Rattle.model.proofs.Answers.{Wide, Rising, answers-rising, answers-wide}
 use Rattle.answers.specs.Page.{pageOutcome, replyOf, Leaves}
-use Rattle.answers.specs.Calls.{Lent, Call, Chain, accepted, Alike, rowsIn, written, roomOf, rooms, answersOf, Tells, Demand3}
+use Rattle.answers.specs.Calls.{Lent, Call, Chain, accepted, Alike, rowsIn, rowsGiven, roomOf, rooms, answersOf, Tells, Demand3}
 use Rattle.answers.proofs.Accepted.{page-few}
 use Rattle.answers.proofs.Paging.{rows-back, wide-part, after-page, some-after}
 
 -- a call as the contract of `page` says that it goes
 abbrev went : Lent → Cursor → List ℕ → Outcome → Call
-went l c room o = record { lent = l; room = room; reply = replyOf o; cursor = o .cursor; buffer = o .buffer }
+went l c room o = record { lent = l; lentBuffer = room; reply = replyOf o; cursor = o .cursor; buffer = o .buffer }
 
 -- what one call gave, where the answers from m on were those after the cursor
 record Step (l : Lent) (m : ℕ) (g : Call) : Type 0 where
@@ -96,17 +96,17 @@ step-owed l c m l₁ room h alike = go (seen (eqb (v .number) 0))
     go (no! t) = rw t (step-refused l c m l₁ room v h t)
 
 step : (l : Lent) (c : Cursor) (m : ℕ) (g : Call) → after (l .columns) (answersOf l) c ≡ drop m (answersOf l)
-    → Leaves (pageOutcome (g .lent .tree) (g .lent .query) (g .lent .columns) c (g .room)) (g .reply) (g .cursor) (g .buffer)
+    → Leaves (pageOutcome (g .lent .tree) (g .lent .query) (g .lent .columns) c (g .lentBuffer)) (g .reply) (g .cursor) (g .buffer)
     → (accepted g ≡ true → g .lent ≡ l) → Step l m g
 step l c m g h d alike =
     subst (λ (z : Call). Step l m z)
-    (λ i. record { lent = g .lent; room = g .room; reply = sym (d .0) i; cursor = sym (d .1) i; buffer = sym (d .2) i })
-    (step-owed l c m (g .lent) (g .room) h (λ t. alike (ap (λ (z : PageReply). eqb (z .number) 0) (d .0) ∙ t)))
+    (λ i. record { lent = g .lent; lentBuffer = g .lentBuffer; reply = sym (d .0) i; cursor = sym (d .1) i; buffer = sym (d .2) i })
+    (step-owed l c m (g .lent) (g .lentBuffer) h (λ t. alike (ap (λ (z : PageReply). eqb (z .number) 0) (d .0) ∙ t)))
 
 module _ (l : Lent) where
   -- the rows that a list of calls wrote, from answer m on
   rows-from : (gs : List Call) (c : Cursor) (m : ℕ) → after (l .columns) (answersOf l) c ≡ drop m (answersOf l) → Chain c gs → Alike l gs
-      → written gs ≡ take (rooms gs) (drop m (answersOf l))
+      → rowsGiven gs ≡ take (rooms gs) (drop m (answersOf l))
   rows-from [] c m h ch al = refl
   rows-from (g ∷ gs) c m h ch al =
       let s = step l c m g h (ch .0) (al .0) in
@@ -146,7 +146,7 @@ module _ (l : Lent) where
       go (no h) = take-all m (answersOf l) (omega arith) ∙ sym (take-all (min (length (answersOf l)) m) (answersOf l) (omega arith))
 
   -- Of any list of page calls from a fresh cursor on, each lent whatever it is lent, refused ones included, where all
-  -- accepted ones are lent the same tree, query and number of variables: the rows written, in the order of the calls, are
+  -- accepted ones are lent the same tree, query and number of variables: the rows rowsGiven, in the order of the calls, are
   -- the first m answers, m being the smaller of the number of answers and the sum of the whole rows that the accepted
   -- calls had room for; the count of each call is what it added to m; an accepted call says that there is more exactly if
   -- m after it is below the number of answers; a refused one counts nothing and says that there is no more.

@@ -11,7 +11,8 @@ use mathlib.Core.List.{List, [], _∷_, _++_, map, append-nil}
 use lib.ListN.{length, take, drop, getD, set, replicate, drop-of-length-le, length-drop, length-set, length-replicate, take-append-drop, List·getD-append}
 use lib.Seq.{length-take-le, take-take, take-suc, drop-cons, getD-take, take-set-lt, set-at, append-snoc}
 use Rattle.model.specs.Answers.{Row, less, blocks, allRows, consIf, keep}
-use Rattle.model.proofs.Answers.{In, Below, below-rest, less-later, less-not, before-blocks}
+use Rattle.model.specs.Accepted.{Below}
+use Rattle.model.proofs.Answers.{In, below-rest, less-later, less-not, before-blocks}
 
 -- What stands after a row, among rows that begin with m numbers from b on.
 

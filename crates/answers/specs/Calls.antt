@@ -20,7 +20,7 @@ pub record Lent : Type 0 where
 -- returned
 pub record Call : Type 0 where
   pub lent : Lent
-  pub room : List ℕ
+  pub lentBuffer : List ℕ
   pub reply : PageReply
   pub cursor : Cursor
   pub buffer : List ℕ
@@ -29,7 +29,7 @@ pub record Call : Type 0 where
 abbrev pub Chain : Cursor → List Call → Type 0
 Chain c [] = Unit
 Chain c (g ∷ gs) =
-    Leaves (pageOutcome (g .lent .tree) (g .lent .query) (g .lent .columns) c (g .room)) (g .reply) (g .cursor) (g .buffer)
+    Leaves (pageOutcome (g .lent .tree) (g .lent .query) (g .lent .columns) c (g .lentBuffer)) (g .reply) (g .cursor) (g .buffer)
     × Chain (g .cursor) gs
 
 -- the call was accepted
@@ -48,13 +48,13 @@ rowsIn k (suc count) buffer = take k buffer ∷ rowsIn k count (drop k buffer)
 
 -- the rows that the calls wrote, in the order of the calls: the first of each buffer, as many as the call's count, read as
 -- the call returned
-abbrev pub written : List Call → List Row
-written [] = []
-written (g ∷ gs) = rowsIn (g .lent .columns) (g .reply .count) (g .buffer) ++ written gs
+abbrev pub rowsGiven : List Call → List Row
+rowsGiven [] = []
+rowsGiven (g ∷ gs) = rowsIn (g .lent .columns) (g .reply .count) (g .buffer) ++ rowsGiven gs
 
 -- the whole rows that a call had room for, where it was accepted; else 0
 abbrev pub roomOf : Call → ℕ
-roomOf g = cond (accepted g) (length (g .room) / g .lent .columns) 0
+roomOf g = cond (accepted g) (length (g .lentBuffer) / g .lent .columns) 0
 
 -- the sum of the whole rows that the accepted calls had room for
 abbrev pub rooms : List Call → ℕ
@@ -66,17 +66,17 @@ abbrev pub answersOf : Lent → List Row
 answersOf l = answers (l .tree) (l .query) (l .columns)
 
 -- how many answers the calls have gone through (document 01: m): as many as there was room for, and no more than there are
-abbrev pub reached : Lent → List Call → ℕ
-reached l gs = min (length (answersOf l)) (rooms gs)
+abbrev pub progress : Lent → List Call → ℕ
+progress l gs = min (length (answersOf l)) (rooms gs)
 
 -- what a call told, after the calls before it: its count is what it added to m; accepted, it says that there is more
 -- exactly if m is then below the number of answers; refused, it counts nothing and says that there is no more
 pub record Tells (l : Lent) (before : List Call) (g : Call) : Type 0 where
-  pub count : reached l (before ++ (g ∷ [])) ≡ reached l before + g .reply .count
-  pub more : accepted g ≡ true → g .reply .more ≡ ltb (reached l (before ++ (g ∷ []))) (length (answersOf l))
+  pub count : progress l (before ++ (g ∷ [])) ≡ progress l before + g .reply .count
+  pub more : accepted g ≡ true → g .reply .more ≡ ltb (progress l (before ++ (g ∷ []))) (length (answersOf l))
   pub refused : accepted g ≡ false → (g .reply .count ≡ 0) × (g .reply .more ≡ false)
 
--- demand 3: the rows written are the first m answers, and each call of the list told the truth
+-- demand 3: the rows rowsGiven are the first m answers, and each call of the list told the truth
 pub record Demand3 (l : Lent) (gs : List Call) : Type 0 where
-  pub rows : written gs ≡ take (reached l gs) (answersOf l)
+  pub rows : rowsGiven gs ≡ take (progress l gs) (answersOf l)
   pub each : (before later : List Call) (g : Call) → gs ≡ before ++ (g ∷ later) → Tells l before g

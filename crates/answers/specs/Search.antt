@@ -6,9 +6,8 @@ use mathlib.Core.List.{List, [], _∷_}
 use lib.ListN.{length, take}
 use Rattle.model.specs.Tree.{sizeOf}
 use Rattle.model.specs.QueryTable.{lastOf}
-use Rattle.model.specs.Accepted.{Evaluable}
+use Rattle.model.specs.Accepted.{Below, Evaluable}
 use Rattle.model.specs.Answers.{Row, less, keep}
-use Rattle.model.proofs.Answers.{Below}
 use Rattle.steps.specs.Moves.{Linked}
 use Rattle.eval.specs.Evaluation.{OfKind}
 use Rattle.answers.specs.declared.Spot.{Spot}

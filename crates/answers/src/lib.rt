@@ -9,9 +9,7 @@ ghost use lib.Seq.{paste};
 ghost use Rattle.model.specs.Tree.{sizeOf};
 ghost use Rattle.model.specs.Answers.{less, keep, allRows, satisfied, answers};
 ghost use Rattle.model.specs.Pages.{rowOf, after, atRow, paged};
-ghost use Rattle.model.specs.Refusals.{verdict};
-ghost use Rattle.model.specs.Checks.{cursorChecks, pageChecks};
-ghost use Rattle.model.proofs.Answers.{Below};
+ghost use Rattle.model.specs.Accepted.{Below};
 ghost use Rattle.answers.specs.Page.{pageOutcome, pageOf, Leaves};
 ghost use Rattle.answers.specs.Search.{ahead, Stands, Searchable};
 
@@ -25,54 +23,6 @@ pub struct Paged {
 struct Spot {
     there: bool,
     row: [u16; 3],
-}
-
-// The checks.
-
-// How many of a cursor's numbers are used.
-fn used_columns(begun: bool, columns: usize) -> usize
-    ensures { λ r. ⌜ (r ≡ cond begun columns 0) × (r ≤ columns) ⌝ }
-{
-    if begun { columns } else { 0 }
-}
-
-// Refusal 17: a used number of a begun cursor is no node.
-fn check_cursor(tree: &[u16], columns: usize, cursor: model::Cursor) -> model::Reply
-    requires { ⌜ columns ≤ 3 ⌝ }
-    ensures { λ r. ⌜ r ≡ verdict (cursorChecks (now (tree .entry)) columns cursor) ⌝ }
-{
-    let used = used_columns(cursor.begun, columns);
-    let row = [cursor.first, cursor.second, cursor.third];
-    let k = tree::lowest_bad_node(tree, &row[..used]);
-    if k < used {
-        return model::reply_at(17, k);
-    }
-    model::reply_at(0, 0)
-}
-
-// The refusals of a page call, 5 to 15, 17 and 20, for a buffer of so many numbers.
-fn check_page(
-    tree: &[u16],
-    query: &[u16],
-    columns: usize,
-    cursor: model::Cursor,
-    room: usize,
-) -> model::Reply
-    ensures { λ r. ⌜ r ≡ verdict (pageChecks (now (tree .entry)) (now (query .entry)) columns cursor room) ⌝ }
-{
-    let t = tree::check_tree(tree);
-    if t.number != 0 {
-        return t;
-    }
-    let q = query::check_query_for(query, 1, columns);
-    if q.number != 0 {
-        return q;
-    }
-    let c = check_cursor(tree, columns, cursor);
-    if c.number != 0 {
-        return c;
-    }
-    model::check_room(room, columns)
 }
 
 // All rows, in their order.
@@ -151,7 +101,7 @@ fn seek(tree: &[u16], prev: &[u16], query: &[u16], k: usize, spot: Spot) -> Spot
     at
 }
 
-// The first answer after a row.
+// The first answer after a row. One evaluation for each row that is looked at.
 fn answer_after(tree: &[u16], prev: &[u16], query: &[u16], k: usize, row: [u16; 3]) -> Spot
     requires { ⌜ Searchable (now tree) (now prev) (now query) k × Below (sizeOf (now tree)) (take k row) ⌝ }
     ensures { λ r.
@@ -163,9 +113,12 @@ fn answer_after(tree: &[u16], prev: &[u16], query: &[u16], k: usize, row: [u16; 
     seek(tree, prev, query, k, next(tree.len() / 2, k, row))
 }
 
-// The first answer that a cursor has not given.
+// The first answer after a cursor's row, or the first of all. One evaluation for each row that is looked at.
 fn first_answer(tree: &[u16], prev: &[u16], query: &[u16], k: usize, cursor: model::Cursor) -> Spot
-    requires { ⌜ Searchable (now tree) (now prev) (now query) k × (cursor .begun ≡ true → Below (sizeOf (now tree)) (rowOf k cursor)) ⌝ }
+    requires { ⌜
+        Searchable (now tree) (now prev) (now query) k
+        × (cursor .begun ≡ true → Below (sizeOf (now tree)) (rowOf k cursor))
+        ⌝ }
     ensures { λ r.
         ⌜
         ahead k (answers (now (tree .entry)) (now (query .entry)) k) r
@@ -225,7 +178,7 @@ fn page_of(count: usize, more: bool, last: model::Cursor) -> Paged
 }
 
 // The answers after a cursor are written to a buffer, as many as it has whole room for, and one more is looked for, to tell
-// whether there is one.
+// whether there is one. One evaluation for each row that is looked at, up to that one.
 fn write_page(
     tree: &[u16],
     prev: &[u16],
@@ -234,7 +187,10 @@ fn write_page(
     cursor: model::Cursor,
     rows: &mut [u16],
 ) -> Paged
-    requires { ⌜ Searchable (now tree) (now prev) (now query) k × (cursor .begun ≡ true → Below (sizeOf (now tree)) (rowOf k cursor)) ⌝ }
+    requires { ⌜
+        Searchable (now tree) (now prev) (now query) k
+        × (cursor .begun ≡ true → Below (sizeOf (now tree)) (rowOf k cursor))
+        ⌝ }
     ensures { λ r.
         ⌜
         Leaves (paged k (answers (now (tree .entry)) (now (query .entry)) k) cursor (now (rows .entry)))
@@ -274,7 +230,7 @@ pub fn page_from(
         (r .reply) (r .cursor) (now (rows .exit))
         ⌝ }
 {
-    let v = check_page(tree, query, columns, cursor, rows.len());
+    let v = checks::check_page(tree, query, columns, cursor, rows.len());
     if v.number != 0 {
         return Paged {
             reply: model::PageReply {

@@ -14,7 +14,7 @@ use Rattle.model.specs.Sets.{any, tab, memb, upto, turn, image}
 use Rattle.model.specs.Tree.{treeOf, sizeOf}
 use Rattle.model.specs.Axes.{steps}
 use Rattle.model.specs.Syntax.{Path, NodeExpr}
-use Rattle.model.specs.Syntax.Path.{step, compose, union, intersect, except, filter, variable, fromRoot}
+use Rattle.model.specs.Syntax.Path.{step, compose, filter, fromRoot}
 use Rattle.model.specs.Syntax.NodeExpr.{exists, negate, both, either, is}
 use Rattle.model.specs.Meaning.{pairs, holds}
 use Rattle.model.specs.QueryTable.{kind, left, right, tag, entry, entriesOf, pathAt, exprAt}
@@ -22,7 +22,7 @@ use Rattle.model.specs.Checks.{leftPath, leftExpr, rightPath, rightExpr}
 use Rattle.model.specs.Results.{assigned, related}
 use Rattle.model.proofs.Exists.{any-cong, and-any}
 use Rattle.model.proofs.Bytes.{tab-cong, memb-yes, memb-no, memb-tab}
-use Rattle.model.proofs.QueryTable.{at-step, at-compose, at-union, at-intersect, at-except, at-filter, at-column, at-root, at-exists, at-negate, at-both, at-either, at-is}
+use Rattle.model.proofs.QueryTable.{at-step, at-compose, at-union, at-intersect, at-except, at-filter, at-variable, at-root, at-exists, at-negate, at-both, at-either, at-is}
 use Rattle.sets.specs.NodeSets.{always, only, combine, combination}
 use Rattle.sets.proofs.Images.{any-next, memb-upto, upto-cong, only-upto, combine-upto, trim-upto, image-cong, image-turned, image-compose, image-or, image-keep, image-kept, image-all, image-one}
 use Rattle.eval.specs.Evaluation.{Ready, passing, passed, reached, row, joined, ending}
@@ -178,7 +178,7 @@ module _ {t v q nodes : List ℕ} {e : ℕ} {f : Entry} (fe : f ≡ entry q e) (
 
   pub did-variable : (o : List ℕ) → o ≡ tab 256 (only (assigned nodes (f .left))) → assigned nodes (f .left) < sizeOf t → f .kind ≡ 6 → o ≡ row t q nodes e false 0
   unfolding row related pairs
-  did-variable o p l h = p ∙ only-upto (sizeOf t) (small ok) (assigned nodes (f .left)) l ∙ rw (at-column q e (rw fe at h), fe)
+  did-variable o p l h = p ∙ only-upto (sizeOf t) (small ok) (assigned nodes (f .left)) l ∙ rw (at-variable q e (rw fe at h), fe)
 
   is-root : f .kind ≡ 7 → pathAt q e ≡ fromRoot (pathAt q (f .left))
   unfolding leftPath
@@ -195,7 +195,7 @@ module _ {t v q nodes : List ℕ} {e : ℕ} {f : Entry} (fe : f ≡ entry q e) (
       p ∙ rw a (image-turned (sizeOf t) (small ok) b _ (rel t q nodes e) (memb s) (λ x y lx ly. memb-upto (sizeOf t) (small ok) (rel t q nodes e 0) y ly ∙ anywhere x y (eq-or-lt-of-le l)))
     where
       anywhere : (x y : ℕ) → (6 ≡ f .kind) ⊎ (6 < f .kind) → rel t q nodes e 0 y ≡ rel t q nodes e x y
-      anywhere x y (inl k) = rw (at-column q e (rw fe at (sym k)))
+      anywhere x y (inl k) = rw (at-variable q e (rw fe at (sym k)))
       anywhere x y (inr k) = rw (is-root (omega arith))
 
   -- node expressions

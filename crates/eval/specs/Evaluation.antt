@@ -40,7 +40,8 @@ row t q nodes e back x = tab 256 (upto (sizeOf t) (related t q nodes e back x))
 
 -- what s reaches by the one operand of entry e and by the other, combined by its kind: 2 union, 3 intersect, 4 except
 unfoldable pub joined : List ℕ → List ℕ → List ℕ → ℕ → Bool → List ℕ → List ℕ
-joined t q nodes e back s = tab 256 (combination (kind q e - 2) (reached t q nodes (left q e) back s) (reached t q nodes (right q e) back s))
+joined t q nodes e back s =
+    tab 256 (combination (kind q e - 2) (reached t q nodes (left q e) back s) (reached t q nodes (right q e) back s))
 
 -- the pairs that end in a set, whatever node they start from
 abbrev pub ending : List ℕ → ℕ → ℕ → Bool

@@ -3,14 +3,13 @@
 //
 // A path without intersect and except costs O(entries × n), whatever its nesting: every entry is evaluated once, and
 // `some` is one backward image of all nodes. Intersect and except go over the start nodes one at a time, O(n) times the
-// cost of their operands. Sets travel by value, so that a level of calls takes a few KiB of stack, and a query has at
-// most 64 levels.
+// cost of their operands, which multiplies where they are nested. Sets travel by value, so that a level of calls takes a
+// few KiB of stack, and a query has at most 64 levels.
 ghost use mathlib.Core.Path.{_≡_};
 ghost use mathlib.Core.Bool.{false, cond};
-ghost use Prim.Native.Nat.{ℕ, _≤_, _<_};
+ghost use Prim.Native.Nat.{_≤_, _<_};
 ghost use lib.ListN.{length};
 ghost use Rattle.model.specs.Sets.{tab, memb, turn, image};
-ghost use Rattle.model.specs.Tree.{sizeOf};
 ghost use Rattle.model.specs.Results.{assigned};
 ghost use Rattle.sets.specs.NodeSets.{only};
 ghost use Rattle.eval.specs.Evaluation.{Ready, OfKind, passed, reached, row, joined, ending};
@@ -39,8 +38,8 @@ fn ending_image(n: usize, to: [u8; 256], back: bool, from: [u8; 256]) -> [u8; 25
     sets::combined(sets::INTERSECTION, all, to)
 }
 
-// The one number if b, else the other.
-fn either(b: bool, x: usize, y: usize) -> usize
+// x if b, else y.
+fn choose(b: bool, x: usize, y: usize) -> usize
     ensures { λ r. ⌜ r ≡ cond b x y ⌝ }
 {
     if b { x } else { y }
@@ -68,8 +67,8 @@ pub fn path(
         return steps::step(tree, prev, l, f.tag, back, from);
     }
     if k == 1 {
-        let first = either(back, r, l);
-        let second = either(back, l, r);
+        let first = choose(back, r, l);
+        let second = choose(back, l, r);
         let m = path(tree, prev, query, nodes, first, back, from);
         return path(tree, prev, query, nodes, second, back, m);
     }

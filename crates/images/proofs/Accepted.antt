@@ -1,41 +1,21 @@
 -- What an accepted evaluation call gives, from its verdict.
-use Prim.Native.Nat.{ℕ, _+_, _-_, _*_, _/_, _<_, _≤_}
+use Prim.Native.Nat.{ℕ, _*_, _<_, _≤_}
 use native.Mathlib.Omega.{arith}
-use mathlib.Core.Path.{_≡_, refl, sym, ap, _∙_}
-use mathlib.Core.Bool.{Bool, true, false, not}
+use mathlib.Core.Path.{_≡_, refl}
 use mathlib.Core.List.{List, _++_}
 use lib.ListN.{length, getD}
 use lib.Dec.{ltb, eqb}
 use borrow.Author.Tests.{ltb-true, ltb-false, eqb-true, not-false}
 use Rattle.model.specs.declared.Reply.{Reply}
-use Rattle.model.specs.Tree.{treeOf, sizeOf}
-use Rattle.model.specs.QueryTable.{entriesOf, kind, lastOf}
+use Rattle.model.specs.Tree.{sizeOf}
+use Rattle.model.specs.QueryTable.{entriesOf}
 use Rattle.model.specs.Refusals.{Check, verdict}
 use Rattle.model.specs.Checks.{treeChecks, queryChecks, badNode, nodeChecks, setChecks, roomChecks, tableChecks, imageChecks, pairsChecks}
 use Rattle.images.specs.Tables.{Tables}
 use Rattle.model.proofs.Exists.{none-of}
 use Rattle.model.proofs.Refusals.{Passes, numbered, accepted, all-pass, Passes-front}
-use Rattle.model.proofs.Accepted.{tree-ordered, entries-some, columns-most, last-path, query-evaluable, tree-numbered, query-numbered}
-
--- a verdict of 0, from the reply that equals it
-zero-of : (cs : List Check) (r : Reply) → r ≡ verdict cs → r .number ≡ 0 → verdict cs .number ≡ 0
-zero-of cs r p z = ap (λ (r : Reply). r .number) (sym p) ∙ z
-
--- an accepted query has few variables
-pub columns-fit : (q : List ℕ) (least columns : ℕ) (r : Reply) → r ≡ verdict (queryChecks q least columns) → r .number ≡ 0 → columns ≤ 256
-columns-fit q least columns r p z = let w : columns ≤ 3 = columns-most q least columns (accepted (queryChecks q least columns) (query-numbered q least columns) (zero-of (queryChecks q least columns) r p z)) in omega arith
-
--- a place in a list that is as long as it should be fits a reply
-pub place-fits : (len due x : ℕ) (b : Bool) → x < len → b ≡ not (eqb len due) → b ≡ false → due ≤ 256 → x < 65536
-place-fits len due x b l e h m = let w : len ≡ due = eqb-true len due (not-false (eqb len due) (sym e ∙ h)) in omega arith
-
-pub tables-numbered : (t q : List ℕ) (columns : ℕ) (nodes : List ℕ) → numbered (tableChecks t q columns nodes) ≡ true
-unfolding tableChecks nodeChecks numbered treeChecks queryChecks
-tables-numbered t q columns nodes = refl
-
-pub set-numbered : (t from : List ℕ) → numbered (setChecks t from) ≡ true
-unfolding setChecks numbered
-set-numbered t from = refl
+use Rattle.checks.proofs.Verdicts.{zero-of, tables-numbered}
+use Rattle.model.proofs.Accepted.{tree-ordered, entries-some, last-path, query-evaluable, tree-numbered, query-numbered}
 
 module _ (t q nodes : List ℕ) (columns : ℕ) where
   tables-of : Passes (treeChecks t) → Passes (queryChecks q 0 columns) → Passes (nodeChecks t columns nodes) → Tables t q nodes
@@ -54,9 +34,6 @@ module _ (t q nodes : List ℕ) (columns : ℕ) where
       let v = Passes-front (treeChecks t) (queryChecks q 0 columns ++ nodeChecks t columns nodes) (tree-numbered t) h in
       let w = Passes-front (queryChecks q 0 columns) (nodeChecks t columns nodes) (query-numbered q 0 columns) (v .1) in
       tables-of (v .0) (w .0) (accepted (nodeChecks t columns nodes) refl (w .1))
-
-  pub tables-fit : (r : Reply) → r ≡ verdict (tableChecks t q columns nodes) → r .number ≡ 0 → sizeOf t ≤ 256
-  tables-fit r p z = tables-accepted (zero-of (tableChecks t q columns nodes) r p z) .tree .sound .at-most
 
   -- tables that are followed by other checks
   front : (b : List Check) → verdict (tableChecks t q columns nodes ++ b) .number ≡ 0 → Tables t q nodes × (verdict b .number ≡ 0)
@@ -78,6 +55,3 @@ module _ (t q nodes : List ℕ) (columns : ℕ) where
       let h = front (roomChecks room (sizeOf t * sizeOf t)) (zero-of (pairsChecks t q columns nodes room) r p z) in
       let w = accepted (roomChecks room (sizeOf t * sizeOf t)) refl (h .1) in
       (h .0, ltb-false room (sizeOf t * sizeOf t) (w .0))
-
-pub room-of : (room size m : ℕ) (s : Reply) → s ≡ verdict (roomChecks room size) → size ≡ m → s ≡ verdict (roomChecks room m)
-room-of room size m s p e = p ∙ ap (λ (k : ℕ). verdict (roomChecks room k)) e

@@ -1,15 +1,15 @@
 -- From the 256 bytes of a node set to what a service writes: the front of a buffer, and a relation's table row after row.
 use Prim.Native.Nat.{ℕ, zero, suc, _+_, _-_, _*_, _/_, _%_, _<_, _≤_}
-use native.Mathlib.Nat.{suc-mul, mul-le-mul, mul-le-mul-right, mul-add-div-right, mul-add-mod-self-right, mod-eq-of-lt, div-eq-of-lt, add-zero, add-suc}
+use native.Mathlib.Nat.{suc-mul, mul-le-mul-right, mul-add-div-right, mul-add-mod-self-right, mod-eq-of-lt, div-eq-of-lt, add-zero, add-suc}
 use native.Mathlib.Numerals.{add-one}
 use native.Mathlib.Omega.{arith}
-use mathlib.Core.Path.{_≡_, refl, sym, ap, _∙_}
-use mathlib.Core.Bool.{Bool, true, false}
+use mathlib.Core.Path.{_≡_, sym, ap, _∙_}
+use mathlib.Core.Bool.{Bool, false}
 use mathlib.Core.List.{List, [], _∷_, _++_, append-assoc, append-nil}
 use lib.ListN.{length, take, drop, length-drop, drop-of-length-le}
 use lib.Seq.{take-at, take-all, drop-at, drop-drop}
 use Rattle.model.specs.declared.Reply.{Reply}
-use Rattle.model.specs.Sets.{bit, tab, memb, upto, image}
+use Rattle.model.specs.Sets.{bit, tab, memb, upto}
 use Rattle.model.specs.Tree.{sizeOf}
 use Rattle.model.specs.QueryTable.{lastOf}
 use Rattle.model.specs.Results.{related, imageBytes, cell, pairsBytes}
@@ -52,10 +52,6 @@ put-back a n xs ys r p =
     ap (λ (l : List ℕ). take a xs ++ (ys ++ l)) (drop-of-length-le (drop a xs) h) ∙ ap (λ (l : List ℕ). take a xs ++ l) (append-nil ys ∙ u)
 
 -- the rows of a table
-
--- a table of 256 nodes has at most 65536 bytes
-pub square-fits : (n : ℕ) → n ≤ 256 → n * n ≤ 65536
-square-fits n l = mul-le-mul l l
 
 tab-append : (a n : ℕ) (S : ℕ → Bool) → tab (a + n) S ≡ tab a S ++ tab n (λ k. S (a + k))
 unfolding tab

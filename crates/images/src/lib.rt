@@ -1,13 +1,9 @@
 // The services of evaluation: the nodes that a set reaches by a query, the nodes that reach a set, and the table of all
 // pairs. None has a precondition: what is malformed is refused, and then the buffer is left as it was.
-mod checks;
 mod write;
 
-ghost use mathlib.Core.Path.{_≡_};
 ghost use mathlib.Core.Bool.{true, false};
-ghost use Prim.Native.Nat.{ℕ, _+_, _-_, _*_, _/_, _≤_, _<_};
-ghost use lib.ListN.{length};
-ghost use Rattle.images.specs.Services.{imageReply, imageBuffer, pairsReply, pairsBuffer};
+ghost use Rattle.images.specs.Services.{ImageLeaves, PairsLeave};
 
 // The image of a node set under the query, or under its converse where back is set.
 fn image(
@@ -19,7 +15,12 @@ fn image(
     from: &[u8],
     to: &mut [u8],
 ) -> model::Reply
-    ensures { λ r. ⌜ (r ≡ imageReply (now (tree .entry)) (now (query .entry)) columns (now (nodes .entry)) (now (from .entry)) (now (to .entry))) × (now (to .exit) ≡ imageBuffer (now (tree .entry)) (now (query .entry)) columns (now (nodes .entry)) back (now (from .entry)) (now (to .entry))) ⌝ }
+    ensures { λ r.
+        ⌜
+        ImageLeaves (now (tree .entry)) (now (query .entry))
+        columns (now (nodes .entry)) back (now (from .entry)) (now (to .entry))
+        r (now (to .exit))
+        ⌝ }
 {
     let v = checks::check_image(tree, query, columns, nodes, from, to.len());
     if v.number != 0 {
@@ -38,7 +39,12 @@ pub fn forwards(
     from: &[u8],
     to: &mut [u8],
 ) -> model::Reply
-    ensures { λ r. ⌜ (r ≡ imageReply (now (tree .entry)) (now (query .entry)) columns (now (nodes .entry)) (now (from .entry)) (now (to .entry))) × (now (to .exit) ≡ imageBuffer (now (tree .entry)) (now (query .entry)) columns (now (nodes .entry)) false (now (from .entry)) (now (to .entry))) ⌝ }
+    ensures { λ r.
+        ⌜
+        ImageLeaves (now (tree .entry)) (now (query .entry))
+        columns (now (nodes .entry)) false (now (from .entry)) (now (to .entry))
+        r (now (to .exit))
+        ⌝ }
 {
     image(tree, query, columns, nodes, false, from, to)
 }
@@ -52,7 +58,12 @@ pub fn backwards(
     from: &[u8],
     to: &mut [u8],
 ) -> model::Reply
-    ensures { λ r. ⌜ (r ≡ imageReply (now (tree .entry)) (now (query .entry)) columns (now (nodes .entry)) (now (from .entry)) (now (to .entry))) × (now (to .exit) ≡ imageBuffer (now (tree .entry)) (now (query .entry)) columns (now (nodes .entry)) true (now (from .entry)) (now (to .entry))) ⌝ }
+    ensures { λ r.
+        ⌜
+        ImageLeaves (now (tree .entry)) (now (query .entry))
+        columns (now (nodes .entry)) true (now (from .entry)) (now (to .entry))
+        r (now (to .exit))
+        ⌝ }
 {
     image(tree, query, columns, nodes, true, from, to)
 }
@@ -65,7 +76,12 @@ pub fn pairs(
     nodes: &[u16],
     table: &mut [u8],
 ) -> model::Reply
-    ensures { λ r. ⌜ (r ≡ pairsReply (now (tree .entry)) (now (query .entry)) columns (now (nodes .entry)) (now (table .entry))) × (now (table .exit) ≡ pairsBuffer (now (tree .entry)) (now (query .entry)) columns (now (nodes .entry)) (now (table .entry))) ⌝ }
+    ensures { λ r.
+        ⌜
+        PairsLeave (now (tree .entry)) (now (query .entry))
+        columns (now (nodes .entry)) (now (table .entry))
+        r (now (table .exit))
+        ⌝ }
 {
     let v = checks::check_pairs(tree, query, columns, nodes, table.len());
     if v.number != 0 {

@@ -2,12 +2,12 @@
 ghost use mathlib.Core.Path.{_≡_};
 ghost use mathlib.Core.Bool.{false};
 ghost use mathlib.Core.List.{_++_};
-ghost use Prim.Native.Nat.{ℕ, _+_, _-_, _*_, _/_, _≤_, _<_};
+ghost use Prim.Native.Nat.{_+_, _-_, _*_, _/_, _≤_, _<_};
 ghost use lib.ListN.{length, take, drop};
 ghost use Rattle.model.specs.Sets.{tab, memb, upto};
-ghost use Rattle.model.specs.Tree.{treeOf, sizeOf};
+ghost use Rattle.model.specs.Tree.{sizeOf};
 ghost use Rattle.model.specs.QueryTable.{lastOf};
-ghost use Rattle.model.specs.Results.{related, cell, imageBytes, pairsBytes};
+ghost use Rattle.model.specs.Results.{related, imageBytes, pairsBytes};
 ghost use Rattle.steps.specs.Moves.{Linked};
 ghost use Rattle.images.specs.Tables.{Tables};
 
@@ -20,8 +20,16 @@ pub fn image_into(
     from: &[u8],
     to: &mut [u8],
 )
-    requires { ⌜ Tables (now tree) (now query) (now nodes) × ((length (now from) ≡ sizeOf (now tree)) × (sizeOf (now tree) ≤ length (now to))) ⌝ }
-    ensures { λ _. ⌜ now (to .exit) ≡ imageBytes (now (tree .entry)) (now (query .entry)) (now (nodes .entry)) back (now (from .entry)) ++ drop (sizeOf (now (tree .entry))) (now (to .entry)) ⌝ }
+    requires { ⌜
+        Tables (now tree) (now query) (now nodes)
+        × ((length (now from) ≡ sizeOf (now tree)) × (sizeOf (now tree) ≤ length (now to)))
+        ⌝ }
+    ensures { λ _.
+        ⌜
+        now (to .exit)
+        ≡ imageBytes (now (tree .entry)) (now (query .entry)) (now (nodes .entry)) back (now (from .entry))
+        ++ drop (sizeOf (now (tree .entry))) (now (to .entry))
+        ⌝ }
 {
     let s = sets::load(from);
     let prev = tree::previous_siblings(tree);
@@ -32,7 +40,11 @@ pub fn image_into(
 // The first n bytes from a place on become the set's; the others stay.
 fn put_row(table: &mut [u8], r: [u8; 256], at: usize, n: usize)
     requires { ⌜ (n ≤ 256) × (at + n ≤ length (now table)) ⌝ }
-    ensures { λ _. ⌜ now (table .exit) ≡ take at (now (table .entry)) ++ (tab n (memb r) ++ drop n (drop at (now (table .entry)))) ⌝ }
+    ensures { λ _.
+        ⌜
+        now (table .exit)
+        ≡ take at (now (table .entry)) ++ (tab n (memb r) ++ drop n (drop at (now (table .entry))))
+        ⌝ }
 {
     sets::put(&mut table[at..], r, n);
 }
@@ -40,7 +52,12 @@ fn put_row(table: &mut [u8], r: [u8; 256], at: usize, n: usize)
 // The nodes that x alone reaches by the query.
 fn row(tree: &[u16], prev: &[u16], query: &[u16], nodes: &[u16], x: usize) -> [u8; 256]
     requires { ⌜ Tables (now tree) (now query) (now nodes) × (Linked (now tree) (now prev) × (x < sizeOf (now tree))) ⌝ }
-    ensures { λ r. ⌜ r ≡ tab 256 (upto (sizeOf (now (tree .entry))) (related (now (tree .entry)) (now (query .entry)) (now (nodes .entry)) (lastOf (now (query .entry))) false x)) ⌝ }
+    ensures { λ r.
+        ⌜
+        r
+        ≡ tab 256 (upto (sizeOf (now (tree .entry)))
+        (related (now (tree .entry)) (now (query .entry)) (now (nodes .entry)) (lastOf (now (query .entry))) false x))
+        ⌝ }
 {
     let s = sets::single(x);
     eval::path(tree, prev, query, nodes, query.len() / 4 - 1, false, s)
@@ -49,7 +66,12 @@ fn row(tree: &[u16], prev: &[u16], query: &[u16], nodes: &[u16], x: usize) -> [u
 // All pairs of the query, row after row; a row's start is carried along. One evaluation for each node.
 pub fn pairs_into(tree: &[u16], query: &[u16], nodes: &[u16], table: &mut [u8])
     requires { ⌜ Tables (now tree) (now query) (now nodes) × (sizeOf (now tree) * sizeOf (now tree) ≤ length (now table)) ⌝ }
-    ensures { λ _. ⌜ now (table .exit) ≡ pairsBytes (now (tree .entry)) (now (query .entry)) (now (nodes .entry)) ++ drop (sizeOf (now (tree .entry)) * sizeOf (now (tree .entry))) (now (table .entry)) ⌝ }
+    ensures { λ _.
+        ⌜
+        now (table .exit)
+        ≡ pairsBytes (now (tree .entry)) (now (query .entry)) (now (nodes .entry))
+        ++ drop (sizeOf (now (tree .entry)) * sizeOf (now (tree .entry))) (now (table .entry))
+        ⌝ }
 {
     let n = tree.len() / 2;
     let prev = tree::previous_siblings(tree);

@@ -1,25 +1,24 @@
 -- Laws of the job file.
 use Prim.Native.Nat.{ℕ, zero, suc, _+_, _-_, _*_, _≤_, _<_, max}
-use native.Mathlib.Numerals.{add-one}
 use native.Mathlib.Omega.{arith}
 use mathlib.Core.Path.{_≡_, refl, sym, ap, _∙_}
 use mathlib.Core.Bool.{Bool, true, false, not, _&&_}
-use mathlib.Core.List.{List, [], _∷_, _++_, append-assoc}
-use lib.ListN.{length, set, drop, getD, length-append, length-drop}
-use lib.Seq.{set-at, drop-cons}
+use mathlib.Core.List.{List, [], _∷_, _++_}
+use lib.ListN.{length, set, drop}
 use lib.Dec.{ltb, leb, eqb}
 use borrow.Author.Tests.{ltb-true, ltb-false, lt-ltb, le-ltb, le-leb, leb-true, eq-eqb, eqb-true, eqb-false, not-true, ne-eqb}
 use Rattle.model.specs.Sets.{any}
 use Rattle.model.specs.Refusals.{reply, verdict}
 use Rattle.model.specs.declared.Reply.{Reply}
 use Rattle.model.proofs.Refusals.{numbered, Passes, accepted}
+use Rattle.model.proofs.Bytes.{front-more, front-done}
 use Rattle.model.proofs.Booleans.{Seen, yes!, no!, seen, bool-ext, both-yes, yes-left, yes-right, no-or}
 use Rattle.model.proofs.Exists.{any-intro, any-elim}
 use Rattle.job.specs.declared.Span.{Span}
 use Rattle.job.specs.declared.Job.{Job}
 use Rattle.job.specs.declared.Pointer.{Pointer}
 use Rattle.job.specs.declared.Trailer.{Trailer}
-use Rattle.job.specs.JobFile.{numberAt, numbers, trailerOf, badLength, spanOf, endOf, outside, holds, overlap, partChecks, fileChecks, refusedJob, jobOf}
+use Rattle.job.specs.JobFile.{numberAt, numbers, trailerOf, badLength, spanOf, endOf, outside, covers, overlap, partChecks, fileChecks, refusedJob, jobOf}
 
 -- one number more at the end
 numbers-more : (f : List ℕ) (at n : ℕ) → numbers f at (suc n) ≡ numbers f at n ++ (numberAt f (at + 2 * n) ∷ [])
@@ -45,16 +44,10 @@ module _ (f : List ℕ) (at : ℕ) (d : List ℕ) where
   none-written = refl
 
   pub one-written : (l : List ℕ) (i v : ℕ) → l ≡ numbers f at i ++ drop i d → v ≡ numberAt f (at + 2 * i) → i < length d → set l i v ≡ numbers f at (i + 1) ++ drop (i + 1) d
-  one-written l i v p q h =
-      rw (p, q, add-one i, drop-cons d i 0 h, numbers-more f at i)
-      (set-at (numbers f at i) (getD d i 0) (drop (suc i) d) (numberAt f (at + 2 * i)) i (length-numbers f at i)
-      ∙ sym (append-assoc (numbers f at i) (numberAt f (at + 2 * i) ∷ []) (drop (suc i) d)))
-
-  pub length-written : (l : List ℕ) (i : ℕ) → l ≡ numbers f at i ++ drop i d → i ≤ length d → length l ≡ length d
-  length-written l i p h = rw (p, length-append (numbers f at i) (drop i d), length-numbers f at i, length-drop i d) (omega arith)
+  one-written l i v p q h = front-more (numbers f at) d l i p v (numbers-more f at i ∙ ap (λ (x : ℕ). numbers f at i ++ (x ∷ [])) (sym q)) (length-numbers f at i) h
 
   pub all-written : (l : List ℕ) (i n : ℕ) → l ≡ numbers f at i ++ drop i d → i ≤ n → n ≤ i → l ≡ numbers f at n ++ drop n d
-  all-written l i n p a b = p ∙ ap (λ (k : ℕ). numbers f at k ++ drop k d) (let e : i ≡ n = omega arith in e)
+  all-written l i n p a b = front-done (numbers f at) d l i p n a b
 
 -- a part that is outside, and one that is not
 
@@ -98,9 +91,9 @@ pub overlap-is : (n : ℕ) (a b : Span) → endOf a ≤ n → endOf b ≤ n
     → ((not (eqb (a .count) 0) && not (eqb (b .count) 0)) && (ltb (a .start) (endOf b) && ltb (b .start) (endOf a))) ≡ overlap n a b
 unfolding overlap
 overlap-is n a b p q = bool-ext ((not (eqb (a .count) 0) && not (eqb (b .count) 0)) && (ltb (a .start) (endOf b) && ltb (b .start) (endOf a)))
-    (any n (λ byte. holds a byte && holds b byte)) to from
+    (any n (λ byte. covers a byte && covers b byte)) to from
   where
-    to : ((not (eqb (a .count) 0) && not (eqb (b .count) 0)) && (ltb (a .start) (endOf b) && ltb (b .start) (endOf a))) ≡ true → any n (λ byte. holds a byte && holds b byte) ≡ true
+    to : ((not (eqb (a .count) 0) && not (eqb (b .count) 0)) && (ltb (a .start) (endOf b) && ltb (b .start) (endOf a))) ≡ true → any n (λ byte. covers a byte && covers b byte) ≡ true
     to h =
         let (x, y, u, v) = all-four (not (eqb (a .count) 0)) (not (eqb (b .count) 0)) (ltb (a .start) (endOf b)) (ltb (b .start) (endOf a)) h in
         let x' : 0 < a .count = some-is (a .count) x in
@@ -108,14 +101,14 @@ overlap-is n a b p q = bool-ext ((not (eqb (a .count) 0) && not (eqb (b .count) 
         let u' : a .start < endOf b = ltb-true (a .start) (endOf b) u in
         let v' : b .start < endOf a = ltb-true (b .start) (endOf a) v in
         let m = max (a .start) (b .start) in
-        any-intro n (λ byte. holds a byte && holds b byte) m (omega arith)
+        any-intro n (λ byte. covers a byte && covers b byte) m (omega arith)
         (both-yes
         (both-yes (le-leb (a .start) m (omega arith)) (lt-ltb m (endOf a) (omega arith)))
         (both-yes (le-leb (b .start) m (omega arith)) (lt-ltb m (endOf b) (omega arith))))
 
-    from : any n (λ byte. holds a byte && holds b byte) ≡ true → ((not (eqb (a .count) 0) && not (eqb (b .count) 0)) && (ltb (a .start) (endOf b) && ltb (b .start) (endOf a))) ≡ true
+    from : any n (λ byte. covers a byte && covers b byte) ≡ true → ((not (eqb (a .count) 0) && not (eqb (b .count) 0)) && (ltb (a .start) (endOf b) && ltb (b .start) (endOf a))) ≡ true
     from h =
-        let (m, l, e) = any-elim n (λ byte. holds a byte && holds b byte) h in
+        let (m, l, e) = any-elim n (λ byte. covers a byte && covers b byte) h in
         let (x, y, u, v) = all-four (leb (a .start) m) (ltb m (endOf a)) (leb (b .start) m) (ltb m (endOf b)) e in
         let x' : a .start ≤ m = leb-true (a .start) m x in
         let y' : m < endOf a = ltb-true m (endOf a) y in
@@ -173,7 +166,7 @@ module _ (file : List ℕ) (r : Reply) (v : r ≡ verdict (fileChecks file)) whe
     unfolding fileChecks partChecks Passes
     accepted-query t q = rw q (starts-inside (length file) (trailerOf file .query) false (sym (checks .1 .1 .1 .0)) refl)
 
--- the parts of a file lie in it, and hold at most 2,042 numbers: what decoding them asks
+-- the parts of a file can be decoded into buffers of 2,042 numbers
 
 decodable : (n : ℕ) (p : Pointer) → badLength n ≡ false → outside n p ≡ false → (endOf (spanOf n p) ≤ n) × (p .count ≤ 2042)
 decodable n p l o =
@@ -185,18 +178,14 @@ module _ (file : List ℕ) where
   accepted-checks : eqb (verdict (fileChecks file) .number) 0 ≡ true → Passes (fileChecks file)
   accepted-checks e = checks file (verdict (fileChecks file)) refl (eqb-true (verdict (fileChecks file) .number) 0 e)
 
-  pub tree-decodable : (endOf (jobOf file .tree) ≤ length file) × (jobOf file .tree .count ≤ 2042)
-  unfolding jobOf fileChecks partChecks Passes
-  tree-decodable = go (seen (eqb (verdict (fileChecks file) .number) 0))
-    where
-      go : Seen (eqb (verdict (fileChecks file) .number) 0) → (endOf (jobOf file .tree) ≤ length file) × (jobOf file .tree .count ≤ 2042)
-      go (yes! e) = let w = accepted-checks e in rw e (decodable (length file) (trailerOf file .tree) (w .0) (w .1 .1 .0))
-      go (no! e) = rw e (omega arith)
+  -- a part lies in the file, and has no more numbers than the bytes before the trailer
+  abbrev Within : Span → Type 0
+  Within s = (endOf s ≤ length file) × (s .count ≤ 2042)
 
-  pub query-decodable : (endOf (jobOf file .query) ≤ length file) × (jobOf file .query .count ≤ 2042)
+  pub parts-within : (j : Job) → j ≡ jobOf file → Within (j .tree) × Within (j .query)
   unfolding jobOf fileChecks partChecks Passes
-  query-decodable = go (seen (eqb (verdict (fileChecks file) .number) 0))
+  parts-within j q = rw q (go (seen (eqb (verdict (fileChecks file) .number) 0)))
     where
-      go : Seen (eqb (verdict (fileChecks file) .number) 0) → (endOf (jobOf file .query) ≤ length file) × (jobOf file .query .count ≤ 2042)
-      go (yes! e) = let w = accepted-checks e in rw e (decodable (length file) (trailerOf file .query) (w .0) (w .1 .1 .1 .0))
-      go (no! e) = rw e (omega arith)
+      go : Seen (eqb (verdict (fileChecks file) .number) 0) → Within (jobOf file .tree) × Within (jobOf file .query)
+      go (yes! e) = let w = accepted-checks e in rw e (decodable (length file) (trailerOf file .tree) (w .0) (w .1 .1 .0), decodable (length file) (trailerOf file .query) (w .0) (w .1 .1 .1 .0))
+      go (no! e) = rw e (omega arith, omega arith)

@@ -1,5 +1,2 @@
 pub mod Files
-pub mod Writing
-pub mod Decimal
-pub mod Rows
 pub mod Worked

@@ -21,10 +21,11 @@ unfoldable pub numbers : List ℕ → ℕ → ℕ → List ℕ
 numbers file at zero = []
 numbers file at (suc n) = numberAt file at ∷ numbers file (at + 2) n
 
+-- the distance and the count of a part, at a byte of the trailer
 abbrev pub pointerAt : List ℕ → ℕ → Pointer
 pointerAt file at = record { distance = numberAt file at; count = numberAt file (at + 2) }
 
--- the last 12 bytes: tree distance and count, query distance and count, column count, magic number (document 01: the mark)
+-- the last 12 bytes: tree distance and count, query distance and count, number of variables, magic number (document 01: the mark)
 abbrev pub trailerOf : List ℕ → Trailer
 trailerOf file =
     record {
@@ -51,12 +52,12 @@ unfoldable pub outside : ℕ → Pointer → Bool
 outside n p = ltb n (p .distance) || ltb (n - 12) (endOf (spanOf n p))
 
 -- a byte is one of the part's
-abbrev pub holds : Span → ℕ → Bool
-holds s byte = leb (s .start) byte && ltb byte (endOf s)
+abbrev pub covers : Span → ℕ → Bool
+covers s byte = leb (s .start) byte && ltb byte (endOf s)
 
 -- 4: some byte of the file is in both parts
 unfoldable pub overlap : ℕ → Span → Span → Bool
-overlap n a b = any n (λ byte. holds a byte && holds b byte)
+overlap n a b = any n (λ byte. covers a byte && covers b byte)
 
 -- 3 and 4 for a file of n bytes
 unfoldable pub partChecks : ℕ → Pointer → Pointer → List Check
@@ -77,7 +78,7 @@ fileChecks file =
 abbrev pub refusedJob : Reply → Job
 refusedJob r = record { reply = r; tree = record { start = 0; count = 0 }; query = record { start = 0; count = 0 }; columns = 0 }
 
--- a reply with the parts and the column count of a trailer
+-- a reply with the parts and the number of variables of a trailer
 abbrev pub jobWith : Reply → ℕ → Trailer → Job
 jobWith r n t = record { reply = r; tree = spanOf n (t .tree); query = spanOf n (t .query); columns = t .columns }
 

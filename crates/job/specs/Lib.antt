@@ -1,2 +1,1 @@
 pub mod JobFile
-pub mod Lines

@@ -1,9 +1,4 @@
-// The job file: its trailer and its parts, refusals 1 to 4, and its numbers. The lines of output are in `lines`.
-mod lines;
-
-pub use lines::end_line;
-pub use lines::refused_line;
-pub use lines::row_lines;
+// The job file: its trailer and its parts, refusals 1 to 4, and its numbers.
 ghost use mathlib.Core.Path.{_≡_};
 ghost use mathlib.Core.List.{_++_};
 ghost use Prim.Native.Nat.{_+_, _*_, _≤_, _<_};
@@ -17,7 +12,7 @@ pub struct Span {
     pub count: usize,
 }
 
-// What a file gives: 0 with its parts and its column count, or a refusal with all else 0.
+// What a file gives: 0 with its parts and its number of variables, or a refusal with all else 0.
 pub struct Job {
     pub reply: model::Reply,
     pub tree: Span,
@@ -49,6 +44,7 @@ fn number_at(file: &[u8], at: usize) -> u16
     low + 256 * high
 }
 
+// The distance and the count of a part, at a byte of the trailer.
 fn pointer_at(file: &[u8], at: usize) -> Pointer
     requires { ⌜ at + 3 < length (now file) ⌝ }
     ensures { λ r. ⌜ r ≡ pointerAt (now (file .entry)) at ⌝ }
@@ -59,6 +55,7 @@ fn pointer_at(file: &[u8], at: usize) -> Pointer
     }
 }
 
+// The trailer of a file.
 fn trailer_of(file: &[u8]) -> Trailer
     requires { ⌜ 12 ≤ length (now file) ⌝ }
     ensures { λ r. ⌜ r ≡ trailerOf (now (file .entry)) ⌝ }
@@ -165,7 +162,7 @@ pub fn open(file: &[u8]) -> Job
     }
 }
 
-// The numbers of a part, over the front of a buffer.
+// The numbers of a part, over the front of a buffer. One turn a number.
 pub fn decode(file: &[u8], start: usize, count: usize, out: &mut [u16])
     requires { ⌜ (start + 2 * count ≤ length (now file)) × (count ≤ length (now out)) ⌝ }
     ensures { λ _. ⌜ now (out .exit) ≡ numbers (now (file .entry)) start count ++ drop count (now (out .entry)) ⌝ }

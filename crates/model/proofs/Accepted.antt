@@ -1,27 +1,26 @@
 -- What accepted tables give the engine.
-use Prim.Native.Nat.{ℕ, zero, suc, _+_, _-_, _*_, _/_, _%_, _≤_, _<_}
+use Prim.Native.Nat.{ℕ, zero, suc, _+_, _-_, _/_, _%_, _≤_, _<_}
 use native.Mathlib.Nat.{not-suc-le-zero, eq-or-lt-of-le}
 use native.Mathlib.Numerals.{sub-one}
 use native.Mathlib.Omega.{arith}
-use mathlib.Core.Path.{_≡_, refl, sym, ap, _∙_}
+use mathlib.Core.Path.{_≡_, refl, ap}
 use mathlib.Core.Logic.{⊎-elim}
 use mathlib.Core.Bool.{Bool, true, false, not, _&&_, _||_}
-use mathlib.Core.List.{List, _++_}
+use mathlib.Core.List.{List}
 use lib.ListN.{length, getD}
 use lib.Dec.{ltb, eqb, eqb·suc-zero}
 use borrow.Author.Tests.{ltb-true, ltb-false, eqb-true, eqb-false, not-false, ne-eqb, eq-eqb}
-use Rattle.model.specs.declared.Reply.{Reply}
 use Rattle.model.specs.Sets.{any, bit}
 use Rattle.model.specs.Tree.{Tree, treeOf, sizeOf}
 use Rattle.model.specs.Axes.{self, ancestor, descendant, following, preceding, descendantOrSelf}
 use Rattle.model.specs.QueryTable.{entriesOf, kind, left, right, tag, entry, lastOf}
-use Rattle.model.specs.Refusals.{Check, verdict}
-use Rattle.model.specs.Checks.{badTreeLength, badParent, badTag, treeChecks, leftPath, leftExpr, rightPath, rightExpr, namesVariable, hasLeft, hasRight, badQueryLength, badKind, badField, badStep, badVariable, badUnnamed, badOperand, badSort, badEntry, queryChecks, badNode, nodeChecks, tableChecks}
+use Rattle.model.specs.Refusals.{verdict}
+use Rattle.model.specs.Checks.{badParent, treeChecks, leftPath, leftExpr, rightPath, rightExpr, namesVariable, hasLeft, hasRight, badStep, badVariable, badUnnamed, badEntry, queryChecks}
 use Rattle.model.specs.Accepted.{Falling, Sound, Ordered, Evaluable}
-use Rattle.model.proofs.Booleans.{no-yes, or-left, or-right, or-cases, no-or, guarded}
+use Rattle.model.proofs.Booleans.{or-left, or-right, or-cases, no-or, guarded}
 use Rattle.model.proofs.Exists.{none-of}
 use Rattle.model.proofs.Axes.{descendant-lower, five-axes}
-use Rattle.model.proofs.Refusals.{Passes, numbered, accepted, all-pass, Passes-front}
+use Rattle.model.proofs.Refusals.{Passes, numbered, accepted}
 
 -- what the check of a table's length secures: some whole items of k numbers each, and not too many
 pub length-fits : (k most l : ℕ) → (eqb l 0 || (not (eqb (l % k) 0) || ltb most l)) ≡ false → (l ≡ 0 → ⊥) × (l % k ≡ 0) × (l ≤ most)

@@ -1,16 +1,17 @@
 -- Laws of the answers: they stand strictly in order, so each of them once, and a row is among them exactly if it has one
 -- node for each variable and the query has a pair under it.
 use Prim.Native.Nat.{ℕ, zero, suc, _+_, _<_, _≤_}
-use native.Mathlib.Nat.{not-suc-le-zero, le-of-suc-le-suc}
+use native.Mathlib.Nat.{not-suc-le-zero, le-of-suc-le-suc, eq-or-lt-of-le}
 use native.Mathlib.Omega.{arith}
-use mathlib.Core.Path.{_≡_, refl, ap, _∙_}
+use mathlib.Core.Path.{_≡_, refl, sym, ap, _∙_}
 use mathlib.Core.Logic.{_⊎_, _↔_}
 use mathlib.Core.Bool.{Bool, true, false, _&&_}
 use mathlib.Core.List.{List, [], _∷_, _++_, map}
 use lib.Dec.{ltb, eqb}
-use lib.ListN.{length, getD}
+use lib.ListN.{length}
 use borrow.Author.Tests.{ltb-true, eqb-true, lt-ltb, le-ltb, eq-eqb, ne-eqb}
 use Rattle.model.specs.Tree.{sizeOf}
+use Rattle.model.specs.Accepted.{Below}
 use Rattle.model.specs.Answers.{Row, less, blocks, allRows, consIf, keep, satisfied, answers}
 use Rattle.model.proofs.Booleans.{no-yes, or-cases, yes-left, yes-right}
 
@@ -24,10 +25,6 @@ In r (x ∷ xs) = (r ≡ x) ⊎ In r xs
 -- each row has k numbers
 abbrev pub Wide : ℕ → List Row → Type 0
 Wide k rows = (r : Row) → In r rows → length r ≡ k
-
--- each number of the row is below n
-abbrev pub Below : ℕ → Row → Type 0
-Below n r = (i : ℕ) → i < length r → getD r i 0 < n
 
 -- each row stands strictly before every later one
 abbrev pub Rising : List Row → Type 0
@@ -165,21 +162,13 @@ in-right : (r : Row) (xs ys : List Row) → In r ys → In r (xs ++ ys)
 in-right r [] ys h = h
 in-right r (x ∷ xs) ys h = _⊎_.inr (in-right r xs ys h)
 
--- b is a itself or above it
-at-or-above : (a b : ℕ) → a ≤ b → (b ≡ a) ⊎ (suc a ≤ b)
-at-or-above a b h = go (native.Mathlib.Decide.decLt a b)
-  where
-    go : Dec (a < b) → (b ≡ a) ⊎ (suc a ≤ b)
-    go (yes l) = _⊎_.inr l
-    go (no l) = _⊎_.inl (omega arith)
-
 joins : (m a b : ℕ) (s : Row) (rs : List Row) → a ≤ b → b < a + m → In s rs → In (b ∷ s) (blocks m a rs)
 joins zero a b s rs l h i = absurd (omega arith)
-joins (suc m) a b s rs l h i = go (joins m (suc a) b s rs) (at-or-above a b l)
+joins (suc m) a b s rs l h i = go (joins m (suc a) b s rs) (eq-or-lt-of-le l)
   where
-    go : (suc a ≤ b → b < suc a + m → In s rs → In (b ∷ s) (blocks m (suc a) rs)) → (b ≡ a) ⊎ (suc a ≤ b)
+    go : (suc a ≤ b → b < suc a + m → In s rs → In (b ∷ s) (blocks m (suc a) rs)) → (a ≡ b) ⊎ (a < b)
         → In (b ∷ s) (blocks (suc m) a rs)
-    go f (_⊎_.inl e) = rw e (in-left a s rs (blocks m (suc a) rs) i)
+    go f (_⊎_.inl e) = rw (sym e) (in-left a s rs (blocks m (suc a) rs) i)
     go f (_⊎_.inr e) = in-right (b ∷ s) (map (λ t. a ∷ t) rs) (blocks m (suc a) rs) (f e (omega arith) i)
 
 long-out : (n k : ℕ) → Wide k (allRows n k)

@@ -4,7 +4,7 @@ use native.Mathlib.Nat.{not-suc-le-zero, le-of-suc-le-suc}
 use native.Mathlib.Numerals.{add-one}
 use native.Mathlib.Omega.{arith}
 use mathlib.Core.Path.{_≡_, refl, sym, ap, _∙_}
-use mathlib.Core.Bool.{Bool, true, false, not, _&&_, _||_, and-comm}
+use mathlib.Core.Bool.{Bool, true, false, not, _&&_, and-comm}
 use mathlib.Core.List.{List, [], _∷_, _++_, append-assoc}
 use lib.ListN.{length, getD, set, drop, replicate, length-append, length-drop, length-set, length-replicate, getD-replicate}
 use lib.Seq.{ext-getD, getD-set-same, getD-set-other, set-at, drop-cons}
@@ -51,7 +51,7 @@ module _ (n : ℕ) (S : ℕ → Bool) where
   same-or i k ne = bool-ext (ltb k i) (ltb k (i + 1)) (λ p. lt-ltb k (i + 1) (let q : k < i = ltb-true k i p in omega arith))
       (λ p. lt-ltb k i (let q : k < i + 1 = ltb-true k (i + 1) p in omega arith))
 
-  -- S i is b, and the bytes are stored at i
+  -- S i is b, and its byte is stored at i
   pub fill-more : (i : ℕ) (b : Bool) → i < n → S i ≡ b → set (tab n (upto i S)) i (bit b) ≡ tab n (upto (i + 1) S)
   unfolding upto
   fill-more i b l e = tab-of n (λ k. ltb k (i + 1) && S k) (set (tab n (λ k. ltb k i && S k)) i (bit b))
@@ -118,21 +118,29 @@ unfolding tab
 tab-snoc zero S = refl
 tab-snoc (suc n) S = ap (λ (l : List ℕ). bit (S zero) ∷ l) (tab-snoc n (λ k. S (suc k)))
 
--- a loop that writes a set over the front of a list
+-- a loop that writes numbers over the front of a list d; after i turns they are F i
+module _ (F : ℕ → List ℕ) (d l : List ℕ) (i : ℕ) (p : l ≡ F i ++ drop i d) where
+  pub front-more : (v : ℕ) → F (suc i) ≡ F i ++ (v ∷ []) → length (F i) ≡ i → i < length d → set l i v ≡ F (i + 1) ++ drop (i + 1) d
+  front-more v more size h =
+      rw (p, add-one i, drop-cons d i 0 h, more)
+      (set-at (F i) (getD d i 0) (drop (suc i) d) v i size ∙ sym (append-assoc (F i) (v ∷ []) (drop (suc i) d)))
+
+  pub front-done : (n : ℕ) → i ≤ n → n ≤ i → l ≡ F n ++ drop n d
+  front-done n a b = p ∙ ap (λ (k : ℕ). F k ++ drop k d) (let e : i ≡ n = omega arith in e)
+
+-- the same where they are the bytes of a set
 pub over-start : (S : ℕ → Bool) (d : List ℕ) → d ≡ tab 0 S ++ drop 0 d
 unfolding tab
 over-start S d = refl
 
 pub over-more : (S : ℕ → Bool) (d l : List ℕ) (i v : ℕ) → l ≡ tab i S ++ drop i d → v ≡ bit (S i) → i < length d → set l i v ≡ tab (i + 1) S ++ drop (i + 1) d
-over-more S d l i v p q h =
-    rw (p, q, add-one i, drop-cons d i 0 h, tab-snoc i S)
-    (set-at (tab i S) (getD d i 0) (drop (suc i) d) (bit (S i)) i (length-tab i S) ∙ sym (append-assoc (tab i S) (bit (S i) ∷ []) (drop (suc i) d)))
+over-more S d l i v p q h = front-more (λ k. tab k S) d l i p v (tab-snoc i S ∙ ap (λ (x : ℕ). tab i S ++ (x ∷ [])) (sym q)) (length-tab i S) h
 
 pub length-over : (S : ℕ → Bool) (d l : List ℕ) (i : ℕ) → l ≡ tab i S ++ drop i d → i ≤ length d → length l ≡ length d
 length-over S d l i p h = rw (p, length-append (tab i S) (drop i d), length-tab i S, length-drop i d) (omega arith)
 
 pub over-done : (S : ℕ → Bool) (d l : List ℕ) (i n : ℕ) → l ≡ tab i S ++ drop i d → i ≤ n → n ≤ i → l ≡ tab n S ++ drop n d
-over-done S d l i n p a b = p ∙ ap (λ (k : ℕ). tab k S ++ drop k d) (let e : i ≡ n = omega arith in e)
+over-done S d l i n p a b = front-done (λ k. tab k S) d l i p n a b
 
 -- the front of 256 bytes
 pub tab-front : (n : ℕ) (S : ℕ → Bool) → n ≤ 256 → tab n (memb (tab 256 S)) ≡ tab n S

@@ -4,9 +4,9 @@ use native.Mathlib.Nat.{not-suc-le-zero, le-of-suc-le-suc, eq-or-lt-of-le}
 use native.Mathlib.Numerals.{add-one}
 use native.Mathlib.Omega.{arith}
 use mathlib.Core.Path.{_≡_, refl, sym, ap, _∙_, subst}
-use mathlib.Core.Logic.{_⊎_, ⊎-elim}
-use mathlib.Core.Bool.{Bool, true, false, not, _&&_, _||_, cond, and-comm}
-use lib.Dec.{ltb, eqb}
+use mathlib.Core.Logic.{⊎-elim}
+use mathlib.Core.Bool.{Bool, true, false, _&&_, _||_, cond, and-comm}
+use lib.Dec.{eqb}
 use borrow.Author.Tests.{eq-eqb, eqb-true}
 use Rattle.model.specs.Sets.{any}
 use Rattle.model.specs.Refusals.{lowest}
@@ -45,9 +45,6 @@ any-more i f p q = rw (add-one i, p, q)
 -- the same with the test's flag
 pub any-miss : (i : ℕ) (f : ℕ → Bool) (b : Bool) → any i f ≡ false → b ≡ f i → b ≡ false → any (i + 1) f ≡ false
 any-miss i f b p e q = any-more i f p (sym e ∙ q)
-
-pub any-hit : (n i : ℕ) (f : ℕ → Bool) (b : Bool) → i < n → b ≡ f i → b ≡ true → any n f ≡ true
-any-hit n i f b l e q = any-intro n f i l (sym e ∙ q)
 
 pub any-end : (n i : ℕ) (f : ℕ → Bool) → any i f ≡ false → i ≤ n → n ≤ i → any n f ≡ false
 any-end n i f p l h = ap (λ (k : ℕ). any k f) (let e : n ≡ i = omega arith in e) ∙ p
@@ -96,15 +93,7 @@ any-one n x f l =
 pub lowest-none : (n : ℕ) (f : ℕ → Bool) → any n f ≡ false → lowest n f ≡ n
 unfolding lowest any
 lowest-none zero f h = refl
-lowest-none (suc n) f h = rw (none-left (f n) (any n f) h, none-right (f n) (any n f) h)
-  where
-    none-left : (a b : Bool) → (a || b) ≡ false → a ≡ false
-    none-left true b h = no-yes h refl
-    none-left false b h = refl
-
-    none-right : (a b : Bool) → (a || b) ≡ false → b ≡ false
-    none-right true b h = no-yes h refl
-    none-right false b h = h
+lowest-none (suc n) f h = let w = no-or (f n) (any n f) h in rw (w .0, w .1)
 
 pub lowest-at : (n x : ℕ) (f : ℕ → Bool) → any x f ≡ false → f x ≡ true → x < n → lowest n f ≡ x
 unfolding lowest
@@ -123,13 +112,6 @@ lowest-less (suc n) f h = go (any n f) refl (lowest-less n f)
     go : (a : Bool) → any n f ≡ a → (any n f ≡ true → lowest n f < n) → cond (any n f) (lowest n f) (cond (f n) n (suc n)) < suc n
     go true p ih = rw p (let w : lowest n f < n = ih p in omega arith)
     go false p ih = rw (p, ⊎-elim (λ q. q) (λ q. no-yes p q) (or-cases (f n) (any n f) h)) (omega arith)
-
-pub lowest-all : (n : ℕ) (f : ℕ → Bool) → lowest n f ≡ n → any n f ≡ false
-lowest-all n f e = go (any n f) refl
-  where
-    go : (a : Bool) → any n f ≡ a → any n f ≡ false
-    go false p = p
-    go true p = absurd (let w : lowest n f < n = lowest-less n f p in omega arith)
 
 pub none-of : (n : ℕ) (f : ℕ → Bool) (x : ℕ) → any n f ≡ false → x < n → f x ≡ false
 none-of n f x h l = go (f x) refl

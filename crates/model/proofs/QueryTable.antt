@@ -1,10 +1,10 @@
 -- What stands at an entry of a query table, by its kind.
-use Prim.Native.Nat.{ℕ, zero, suc, _+_, _*_, _<_}
+use Prim.Native.Nat.{ℕ, zero, suc, _<_}
 use native.Mathlib.Nat.{not-suc-le-zero, le-of-suc-le-suc, eq-or-lt-of-le}
 use native.Mathlib.Omega.{arith}
-use mathlib.Core.Path.{_≡_, refl, sym, ap, _∙_}
+use mathlib.Core.Path.{_≡_, refl, ap, _∙_}
 use mathlib.Core.Logic.{⊎-elim}
-use mathlib.Core.List.{List, [], _∷_, _++_}
+use mathlib.Core.List.{List, [], _∷_}
 use lib.ListN.{length, getD, length-append, List·getD-append}
 use lib.Seq.{getD-at}
 use Rattle.model.specs.Syntax.Path.{step, compose, union, intersect, except, filter, variable, fromRoot}
@@ -17,7 +17,7 @@ module _ (q : List ℕ) where
   length-entries zero = refl
   length-entries (suc k) = length-append (parsed q k) (parseOver q k (parsed q k) ∷ []) ∙ (let h : length (parsed q k) ≡ k = length-entries k in omega arith)
 
-  -- an earlier parsedAt, as a later one sees it
+  -- an earlier entry, as a later one sees it
   pub entry-at : (e l : ℕ) (z : Parsed) → l < e → getD (parsed q e) l z ≡ parsedAt q l
   unfolding parsed grow parsedAt
   entry-at zero l z h = absurd (not-suc-le-zero h)
@@ -27,7 +27,7 @@ module _ (q : List ℕ) where
       (λ m. List·getD-append (parsed q k) (parseOver q k (parsed q k) ∷ []) z l (rw (length-entries k) m) ∙ entry-at k l z m)
       (eq-or-lt-of-le (le-of-suc-le-suc h))
 
-  -- the parsedAt of a known kind, over what its operands are
+  -- an entry of a known kind, over what its operands are
   over : (k e : ℕ) (a b : Parsed) → kind q e ≡ k → getD (parsed q e) (left q e) (ofExpr (is 0)) ≡ a → getD (parsed q e) (right q e) (ofExpr (is 0)) ≡ b → parsedAt q e ≡ parse k (left q e) (tag q e) a b
   unfolding parsedAt parseOver
   over k e a b h p r = rw (h, p, r)
@@ -66,9 +66,9 @@ module _ (q : List ℕ) where
     unfolding parse
     at-filter h l r = ap (λ (w : Parsed). w .path) (two 5 e h l r)
 
-    pub at-column : kind q e ≡ 6 → pathAt q e ≡ variable (left q e)
+    pub at-variable : kind q e ≡ 6 → pathAt q e ≡ variable (left q e)
     unfolding parse
-    at-column h = ap (λ (w : Parsed). w .path) (none 6 e h)
+    at-variable h = ap (λ (w : Parsed). w .path) (none 6 e h)
 
     pub at-root : kind q e ≡ 7 → left q e < e → pathAt q e ≡ fromRoot (pathAt q (left q e))
     unfolding parse

@@ -4,10 +4,14 @@ use mathlib.Core.Path.{_≡_}
 use mathlib.Core.Bool.{true}
 use mathlib.Core.List.{List}
 use lib.ListN.{length, getD}
-use Rattle.model.specs.Tree.{Tree, treeOf, sizeOf}
+use Rattle.model.specs.Tree.{Tree, sizeOf}
 use Rattle.model.specs.Axes.{descendantOrSelf}
 use Rattle.model.specs.QueryTable.{entriesOf, kind, left, right}
 use Rattle.model.specs.Checks.{leftPath, leftExpr, rightPath, rightExpr, namesVariable}
+
+-- each of these numbers is below n: a row or an assignment of nodes of a tree of n nodes
+abbrev pub Below : ℕ → List ℕ → Type 0
+Below n r = (i : ℕ) → i < length r → getD r i 0 < n
 
 -- up to a node, every node's parent comes before it
 pub record Falling (t : Tree) (top : ℕ) : Type 0 where

@@ -1,6 +1,6 @@
 -- The refusals 5 to 20 of document 01, in checking order. Each check runs over its whole object before the next begins.
-use Prim.Native.Nat.{ℕ, zero, suc, _+_, _-_, _*_, _/_, _%_}
-use mathlib.Core.Bool.{Bool, true, false, not, _&&_, _||_, cond}
+use Prim.Native.Nat.{ℕ, zero, suc, _+_, _-_, _*_, _%_}
+use mathlib.Core.Bool.{Bool, not, _&&_, _||_, cond}
 use mathlib.Core.List.{List, [], _∷_, _++_}
 use lib.ListN.{length, getD}
 use lib.Dec.{ltb, eqb}
@@ -27,6 +27,7 @@ badParent t x = cond (eqb x 0) (not (eqb (t .parent x) 65535)) (not (descendantO
 abbrev pub badTag : Tree → ℕ → Bool
 badTag t x = ltb 65533 (t .tag x)
 
+-- 5 to 7
 unfoldable pub treeChecks : List ℕ → List Check
 treeChecks t =
     refuse 5 (badTreeLength (length t))
@@ -36,26 +37,31 @@ treeChecks t =
 
 -- The query table.
 
--- which kinds have a path for their left operand, a node expression, and so for the right; which name a variable in left
+-- the left operand is a path: kinds 1 to 5, 7 and 8
 unfoldable pub leftPath : ℕ → Bool
 leftPath k = (ltb 0 k && ltb k 6) || (eqb k 7 || eqb k 8)
 
+-- the left operand is a node expression: kinds 9 to 11
 unfoldable pub leftExpr : ℕ → Bool
 leftExpr k = ltb 8 k && ltb k 12
 
+-- the right operand is a path: kinds 1 to 4
 unfoldable pub rightPath : ℕ → Bool
 rightPath k = ltb 0 k && ltb k 5
 
+-- the right operand is a node expression: kinds 5, 10 and 11
 unfoldable pub rightExpr : ℕ → Bool
 rightExpr k = eqb k 5 || (eqb k 10 || eqb k 11)
 
+-- left is the number of a variable: kinds 6 and 12
 unfoldable pub namesVariable : ℕ → Bool
 namesVariable k = eqb k 6 || eqb k 12
 
--- a kind has a left operand, and a right one
+-- the kind has a left operand
 abbrev pub hasLeft : ℕ → Bool
 hasLeft k = leftPath k || leftExpr k
 
+-- the kind has a right operand
 abbrev pub hasRight : ℕ → Bool
 hasRight k = rightPath k || rightExpr k
 
@@ -64,8 +70,8 @@ abbrev pub badQueryLength : ℕ → Bool
 badQueryLength l = eqb l 0 || (not (eqb (l % 4) 0) || ltb 256 l)
 
 -- 9: the number of variables is above 3, or below the least that the service takes: 1 for answers, else 0
-abbrev pub badColumns : ℕ → ℕ → Bool
-badColumns least columns = ltb columns least || ltb 3 columns
+abbrev pub badVariableCount : ℕ → ℕ → Bool
+badVariableCount least columns = ltb columns least || ltb 3 columns
 
 -- 10: a kind above 12
 abbrev pub badKind : Entry → Bool
@@ -125,12 +131,14 @@ misused q i = not (eqb (uses q i (entriesOf q)) 1)
 abbrev pub badLast : List ℕ → Bool
 badLast q = not (ltb (kind q (lastOf q)) 8)
 
+-- 14 and 15
 abbrev pub useChecks : List ℕ → List Check
 useChecks q =
     refuseAt 14 (lastOf q) (misused q)
     ∷ refuseHere 15 (lastOf q) (badLast q)
     ∷ []
 
+-- 10 to 15
 abbrev pub entryChecks : List ℕ → ℕ → List Check
 entryChecks q columns =
     refuseAt 10 (entriesOf q) (badEntry q columns 10)
@@ -139,11 +147,11 @@ entryChecks q columns =
     ∷ refuseAt 13 (entriesOf q) (badEntry q columns 13)
     ∷ useChecks q
 
--- for a service that takes no fewer variables than least
+-- 8 to 15, for a service that takes no fewer variables than least
 unfoldable pub queryChecks : List ℕ → ℕ → ℕ → List Check
 queryChecks q least columns =
     refuse 8 (badQueryLength (length q))
-    ∷ refuse 9 (badColumns least columns)
+    ∷ refuse 9 (badVariableCount least columns)
     ∷ entryChecks q columns
 
 -- What an evaluation or a page is lent beside them.

@@ -1,4 +1,5 @@
--- A page of answers: a function of the answers, the cursor and the buffer that a call is lent (document 01: 'Sets, pairs and walks').
+-- A page of answers: a function of the answers, the cursor and the buffer that a call is lent (document 01: 'Sets, pairs and
+-- walks').
 use Prim.Native.Nat.{ℕ, _/_}
 use mathlib.Core.Bool.{Bool, true, false, cond}
 use mathlib.Core.List.{List, [], _∷_, _++_}
@@ -29,12 +30,13 @@ abbrev pub flat : List Row → List ℕ
 flat [] = []
 flat (r ∷ rs) = r ++ flat rs
 
--- a list has a row
+-- the list is not empty
 abbrev pub some : List Row → Bool
 some [] = false
 some (r ∷ rs) = true
 
--- what a page call leaves: its reply, and the cursor and the buffer as it returns
+-- what a page call leaves: its reply (document 01: number, place, count and flag), and the cursor (the walk) and the buffer (the
+-- room) as it returns
 pub record Outcome : Type 0 where
   pub number : ℕ
   pub place : ℕ

@@ -11,19 +11,23 @@ use Rattle.model.specs.Syntax.NodeExpr.{exists, negate, both, either, is
 abbrev pub entriesOf : List ℕ → ℕ
 entriesOf q = length q / 4
 
--- four numbers an entry: kind, left, right, tag
+-- four numbers an entry; the first is its kind
 abbrev pub kind : List ℕ → ℕ → ℕ
 kind q e = getD q (4 * e) 0
 
+-- the second, left
 abbrev pub left : List ℕ → ℕ → ℕ
 left q e = getD q (4 * e + 1) 0
 
+-- the third, right
 abbrev pub right : List ℕ → ℕ → ℕ
 right q e = getD q (4 * e + 2) 0
 
+-- the fourth, tag
 abbrev pub tag : List ℕ → ℕ → ℕ
 tag q e = getD q (4 * e + 3) 0
 
+-- entry e, as its four numbers
 abbrev pub entry : List ℕ → ℕ → Entry
 entry q e = record { kind = kind q e; left = left q e; right = right q e; tag = tag q e }
 
@@ -32,9 +36,11 @@ pub record Parsed : Type 0 where
   pub path : Path
   pub expr : NodeExpr
 
+-- an entry that is a path; the other part only fills its place
 abbrev pub ofPath : Path → Parsed
 ofPath p = record { path = p; expr = is 0 }
 
+-- an entry that is a node expression; the same
 abbrev pub ofExpr : NodeExpr → Parsed
 ofExpr e = record { path = variable 0; expr = e }
 
@@ -61,7 +67,8 @@ parse k l name a b =
 
 -- entry e, where es are the entries before it
 unfoldable pub parseOver : List ℕ → ℕ → List Parsed → Parsed
-parseOver q e es = parse (kind q e) (left q e) (tag q e) (getD es (left q e) (ofExpr (is 0))) (getD es (right q e) (ofExpr (is 0)))
+parseOver q e es =
+    parse (kind q e) (left q e) (tag q e) (getD es (left q e) (ofExpr (is 0))) (getD es (right q e) (ofExpr (is 0)))
 
 -- the entries es, and entry e behind them
 unfoldable pub grow : List ℕ → ℕ → List Parsed → List Parsed
@@ -76,9 +83,11 @@ parsed q (suc k) = grow q k (parsed q k)
 unfoldable pub parsedAt : List ℕ → ℕ → Parsed
 parsedAt q e = parseOver q e (parsed q e)
 
+-- entry e, where it is a path
 abbrev pub pathAt : List ℕ → ℕ → Path
 pathAt q e = parsedAt q e .path
 
+-- entry e, where it is a node expression
 abbrev pub exprAt : List ℕ → ℕ → NodeExpr
 exprAt q e = parsedAt q e .expr
 

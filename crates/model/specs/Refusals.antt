@@ -1,6 +1,6 @@
 -- Refusals: checks in their order, and the verdict, which is the first of them that fails.
 use Prim.Native.Nat.{ℕ, zero, suc}
-use mathlib.Core.Bool.{Bool, true, false, cond}
+use mathlib.Core.Bool.{Bool, cond}
 use mathlib.Core.List.{List, [], _∷_, _++_}
 use lib.ListN.{length, drop}
 use lib.Dec.{eqb}
@@ -30,6 +30,7 @@ refuse k b = refuseHere k 0 b
 abbrev pub refuseAt : ℕ → ℕ → (ℕ → Bool) → Check
 refuseAt k n f = record { number = k; fails = any n f; place = lowest n f }
 
+-- the reply of a number and a place
 abbrev pub reply : ℕ → ℕ → Reply
 reply k p = record { number = k; place = p }
 

@@ -12,7 +12,7 @@ use Rattle.model.specs.QueryTable.{pathAt, lastOf}
 unfoldable pub assigned : List ℕ → ℕ → ℕ
 assigned nodes k = getD nodes k 0
 
--- the relation of the path at entry e of q, over the tree t; its converse where back is set
+-- the relation of the path at entry e of q, over the tree t under an assignment; its converse where back is set
 unfoldable pub related : List ℕ → List ℕ → List ℕ → ℕ → Bool → ℕ → ℕ → Bool
 related t q nodes e back = turn back (pairs (treeOf t) (assigned nodes) (pathAt q e))
 

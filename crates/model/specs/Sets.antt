@@ -1,4 +1,10 @@
 -- Sets of nodes and relations between nodes, as Boolean tests, and the bytes that hold a set.
+--
+-- How to read these files. `f : A → B → C` says that f takes an A and a B to a C; the lines below it define it, case by case.
+-- `pub`, `abbrev` and `unfoldable` only tell the prover who may use a name and how. `suc n` is n + 1. `[]` is the empty list,
+-- `x ∷ xs` is xs with x in front, and `++` joins lists. `ltb x y` and `eqb x y` are the tests x < y and x = y; `&&`, `||` and
+-- `not` join tests; `cond b x y` is x if b, else y. `getD l i d` is element i of l, or d past its end. `λ x. e` takes x to e.
+-- `t .size` is a field of t.
 use Prim.Native.Nat.{ℕ, zero, suc}
 use mathlib.Core.Bool.{Bool, true, false, not, _&&_, _||_}
 use mathlib.Core.List.{List, [], _∷_}

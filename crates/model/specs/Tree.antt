@@ -1,9 +1,9 @@
--- A tree, and the tree table that holds it. Nothing below knows how the table is laid out.
+-- A tree, and the tree table that holds it. The axes and the meaning see the record alone.
 use Prim.Native.Nat.{ℕ, _+_, _*_, _/_}
 use mathlib.Core.List.{List}
 use lib.ListN.{length, getD}
 
--- nodes are numbered from 0 in document order; a number of node 0's parent has no meaning
+-- nodes are numbered from 0 in document order; node 0 has no parent, and the number that stands for it means nothing
 pub record Tree : Type 0 where
   pub size : ℕ
   pub parent : ℕ → ℕ

@@ -1,5 +1,5 @@
--- The teaching warehouse and its starred lines, as one list. proofs/Starred.antt proves that every line of the list is right.
-use Prim.Native.Nat.{ℕ, zero, suc, _*_}
+-- The teaching warehouse and its starred lines, as one list. proofs/Starred.antt proves that every line of the list is correct.
+use Prim.Native.Nat.{ℕ, _*_}
 use mathlib.Core.Bool.{Bool, true, false, cond, not, _&&_, _||_}
 use mathlib.Core.List.{List, [], _∷_, _++_}
 use lib.ListN.{length, drop, replicate}
@@ -15,10 +15,11 @@ use Rattle.model.specs.Pages.{Outcome, paged, flat}
 unfoldable pub warehouse : List ℕ
 warehouse = 65535 ∷ 1 ∷ 0 ∷ 2 ∷ 1 ∷ 3 ∷ 1 ∷ 3 ∷ 0 ∷ 2 ∷ 4 ∷ 3 ∷ []
 
+-- a tree of one node
 unfoldable pub oneNode : List ℕ
 oneNode = 65535 ∷ 1 ∷ []
 
--- a page as the lines tell it: the rows written and the flag
+-- a page as the lines tell it: the rows written, and whether there is more
 pub record Page : Type 0 where
   pub rows : List Row
   pub more : Bool
@@ -43,19 +44,21 @@ among (y ∷ ys) x = eqb x y || among ys x
 unfoldable pub setOf : List ℕ → List ℕ → List ℕ
 setOf t xs = tab (sizeOf t) (among xs)
 
+-- two lists of numbers are equal
 unfoldable pub same : List ℕ → List ℕ → Bool
 same [] [] = true
 same [] (y ∷ ys) = false
 same (x ∷ xs) [] = false
 same (x ∷ xs) (y ∷ ys) = eqb x y && same xs ys
 
+-- two lists of rows are equal
 unfoldable pub sameRows : List Row → List Row → Bool
 sameRows [] [] = true
 sameRows [] (s ∷ ss) = false
 sameRows (r ∷ rs) [] = false
 sameRows (r ∷ rs) (s ∷ ss) = same r s && sameRows rs ss
 
--- a call wrote the page over the front of the buffer, with its count and its flag
+-- a call wrote the page over the front of the buffer, and told its count and whether there is more
 unfoldable pub showsPage : List ℕ → Page → Outcome → Bool
 showsPage buffer p o =
     same (o .buffer) (flat (p .rows) ++ drop (length (flat (p .rows))) buffer)
@@ -67,24 +70,27 @@ showsPages k rows c buffer [] = true
 showsPages k rows c buffer (p ∷ ps) =
     showsPage buffer p (paged k rows c buffer) && showsPages k rows (paged k rows c buffer .cursor) buffer ps
 
--- the line is right, by the definitions of the meaning
-unfoldable pub right : Line → Bool
-right (forwards t q from to) = same (imageBytes t q [] false (setOf t from)) (setOf t to)
-right (backwards t q from to) = same (imageBytes t q [] true (setOf t from)) (setOf t to)
-right (lists q k rows) = sameRows (answers warehouse q k) rows
-right (pages q k c room ps) = showsPages k (answers warehouse q k) c (replicate (room * k) 7) ps
+-- the line is correct, by the definitions of the meaning
+unfoldable pub correct : Line → Bool
+correct (forwards t q from to) = same (imageBytes t q [] false (setOf t from)) (setOf t to)
+correct (backwards t q from to) = same (imageBytes t q [] true (setOf t from)) (setOf t to)
+correct (lists q k rows) = sameRows (answers warehouse q k) rows
+correct (pages q k c room ps) = showsPages k (answers warehouse q k) c (replicate (room * k) 7) ps
 
-unfoldable pub allRight : List Line → Bool
-allRight [] = true
-allRight (l ∷ ls) = right l && allRight ls
+-- every line of the list is correct
+unfoldable pub allCorrect : List Line → Bool
+allCorrect [] = true
+allCorrect (l ∷ ls) = correct l && allCorrect ls
 
--- the cursors of the lines
+-- a fresh cursor (document 01: a fresh walk)
 abbrev pub fresh : Cursor
 fresh = record { begun = false; first = 0; second = 0; third = 0 }
 
+-- a cursor begun at the row (a, b)
 abbrev pub begunAt : ℕ → ℕ → Cursor
 begunAt a b = record { begun = true; first = a; second = b; third = 0 }
 
+-- the page of these rows
 abbrev pub page : List Row → Bool → Page
 page rows more = record { rows = rows; more = more }
 

@@ -1,8 +1,7 @@
 // The types that every layer shares. What a reader must believe of the engine is in specs/.
 ghost use mathlib.Core.Path.{_≡_};
-ghost use Prim.Native.Nat.{ℕ, _<_};
-ghost use Rattle.model.specs.Refusals.{reply, verdict};
-ghost use Rattle.model.specs.Checks.{roomChecks};
+ghost use Prim.Native.Nat.{_<_};
+ghost use Rattle.model.specs.Refusals.{reply};
 
 // The reply to a call: 0 and 0, or the number and the place of a refusal.
 #[repr(C)]
@@ -11,7 +10,8 @@ pub struct Reply {
     pub place: u16,
 }
 
-// The reply to a page call: number and place, how many rows it wrote, and whether a later row exists.
+// The reply to a page call: number and place, how many rows it wrote, and whether a later row exists (document 01: count and
+// flag).
 #[repr(C)]
 pub struct PageReply {
     pub number: u16,
@@ -54,15 +54,4 @@ pub fn reply_at(number: u16, place: usize) -> Reply
         number: number,
         place: place as u16,
     }
-}
-
-// Refusal 20: a buffer has room for less than is needed.
-pub fn check_room(room: usize, needed: usize) -> Reply
-    ensures { λ r. ⌜ r ≡ verdict (roomChecks room needed) ⌝ }
-{
-    let short = room < needed;
-    if short {
-        return reply_at(20, 0);
-    }
-    reply_at(0, 0)
 }

@@ -1,5 +1,5 @@
--- Laws of reading a table's names from the front. What stands from position `at` on is malformedFrom `at` and namesFrom `at` of the
--- whole table: `at` bytes of it are passed.
+-- Laws of reading a table's names from the front. What stands from position `at` on is malformedFrom `at` and namesFrom `at` of
+-- the whole table: `at` bytes of it are passed.
 use Prim.Native.Nat.{ℕ, zero, suc, _+_, _-_, _≤_, _<_}
 use native.Mathlib.Nat.{not-suc-le-zero, le-of-suc-le-suc}
 use native.Mathlib.Omega.{arith}

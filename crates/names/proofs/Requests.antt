@@ -1,4 +1,5 @@
--- Laws of a name request: a name found by its number, what an accepted and a refused request are given, and that a name lies in its table.
+-- Laws of a name request: a name found by its number, what an accepted and a refused request are given, and that a name lies
+-- in its table.
 use Prim.Native.Nat.{ℕ, zero, suc, _+_, _-_, _≤_, _<_}
 use native.Mathlib.Omega.{arith}
 use mathlib.Core.Path.{_≡_, refl, sym, ap, _∙_}
@@ -20,7 +21,7 @@ use Rattle.names.specs.declared.Found.the-variants.{At, Past}
 use Rattle.names.specs.declared.Lookup.{Lookup}
 use Rattle.names.specs.declared.Lookup.the-variants.{Named, Refused}
 use Rattle.names.proofs.Reading.{fits-rest}
-use Rattle.names.specs.Names.{badLength, malformedFrom, malformed, namesFrom, names, part, nothing, byTag, unnamed, nameChecks, partFor, tableOf, replyOf, partOf, found, Answers, IsPart}
+use Rattle.names.specs.Names.{badLength, malformedFrom, malformed, namesFrom, names, part, nothing, byTag, unnamed, nameChecks, partFor, tableOf, replyOf, partOf, found, Decided, IsPart}
 
 -- a name found by its number: in the first of two lists, or past it in the second
 
@@ -77,14 +78,14 @@ module _ (house site : List ℕ) (tag : ℕ) where
 
   -- a refused request, and one that is accepted
 
-  pub refused : (k at : ℕ) (r : Reply) → r ≡ reply k at → (k ≡ 0 → ⊥) → r ≡ verdict (nameChecks house site tag) → Answers house site tag (Refused r)
+  pub refused : (k at : ℕ) (r : Reply) → r ≡ reply k at → (k ≡ 0 → ⊥) → r ≡ verdict (nameChecks house site tag) → Decided house site tag (Refused r)
   unfolding partFor
   refused k at r e z v = record {
     replied = v;
     given = rw (ne-eqb (verdict (nameChecks house site tag) .number) 0 (λ h. z (ap (λ (r : Reply). r .number) (sym e ∙ v) ∙ h)));
   }
 
-  pub named : (t : ℕ) (p : Part) (f : Found) → reply 0 0 ≡ verdict (nameChecks house site tag) → f ≡ found (byTag house site) t → f ≡ At p → t ≡ tag → Answers house site tag (Named p)
+  pub named : (t : ℕ) (p : Part) (f : Found) → reply 0 0 ≡ verdict (nameChecks house site tag) → f ≡ found (byTag house site) t → f ≡ At p → t ≡ tag → Decided house site tag (Named p)
   unfolding partFor
   named t p f v e h q = record {
     replied = v;
@@ -132,29 +133,29 @@ inside house site tag = go (seen (eqb (verdict (nameChecks house site tag) .numb
 -- the reply of an answered request
 
 module _ (house site : List ℕ) (tag : ℕ) (l : Lookup) (r : Reply) where
-  pub is-accepted : (p : Part) → Answers house site tag l → l ≡ Named p → r ≡ reply 0 0 → r ≡ verdict (nameChecks house site tag)
+  pub is-accepted : (p : Part) → Decided house site tag l → l ≡ Named p → r ≡ reply 0 0 → r ≡ verdict (nameChecks house site tag)
   is-accepted p a e z = z ∙ sym (ap replyOf e) ∙ a .replied
 
-  pub is-refused : Answers house site tag l → l ≡ Refused r → r ≡ verdict (nameChecks house site tag)
+  pub is-refused : Decided house site tag l → l ≡ Refused r → r ≡ verdict (nameChecks house site tag)
   is-refused a e = sym (ap replyOf e) ∙ a .replied
 
 -- the part that it names
 
 module _ (house site : List ℕ) (tag : ℕ) (l : Lookup) (p : Part) where
-  pub is-name : Answers house site tag l → l ≡ Named p → p ≡ partFor house site tag
+  pub is-name : Decided house site tag l → l ≡ Named p → p ≡ partFor house site tag
   is-name a e = sym (ap partOf e) ∙ a .given
 
-  pub ends-in : (w : Table) → Answers house site tag l → l ≡ Named p → p .table ≡ w → p .start + p .len ≤ length (tableOf w house site)
+  pub ends-in : (w : Table) → Decided house site tag l → l ≡ Named p → p .table ≡ w → p .start + p .len ≤ length (tableOf w house site)
   ends-in w a e t = rw t at (rw (sym (is-name a e)) at (inside house site tag))
 
-  pub ends-below : (n : ℕ) → length house < n → length site < n → Answers house site tag l → l ≡ Named p → p .start + p .len < n
+  pub ends-below : (n : ℕ) → length house < n → length site < n → Decided house site tag l → l ≡ Named p → p .start + p .len < n
   ends-below n h s a e = go (p .table) refl
     where
       go : (w : Table) → p .table ≡ w → p .start + p .len < n
       go House t = omega (arith, ends-in House a e t)
       go Site t = omega (arith, ends-in Site a e t)
 
-pub no-name : (house site : List ℕ) (tag : ℕ) (l : Lookup) (r : Reply) → Answers house site tag l → l ≡ Refused r → nothing ≡ partFor house site tag
+pub no-name : (house site : List ℕ) (tag : ℕ) (l : Lookup) (r : Reply) → Decided house site tag l → l ≡ Refused r → nothing ≡ partFor house site tag
 no-name house site tag l r a e = sym (ap partOf e) ∙ a .given
 
 -- the slice of that part, from its start to its end

@@ -17,7 +17,7 @@ use Rattle.names.specs.declared.Found.the-variants.{At, Past}
 use Rattle.names.specs.declared.Lookup.{Lookup}
 use Rattle.names.specs.declared.Lookup.the-variants.{Named, Refused}
 
--- a length byte is 1 to 32
+-- a length byte is not 1 to 32
 abbrev pub badLength : ℕ → Bool
 badLength l = eqb l 0 || ltb 32 l
 
@@ -32,6 +32,7 @@ malformedFrom (suc rest) (b ∷ bs) = malformedFrom rest bs
 abbrev pub malformed : List ℕ → Bool
 malformed table = malformedFrom 0 table
 
+-- the part of a table from a position on, of so many bytes
 abbrev pub part : Table → ℕ → ℕ → Part
 part w start len = record { table = w; start = start; len = len }
 
@@ -101,6 +102,6 @@ partOf (Named p) = p
 partOf (Refused r) = nothing
 
 -- the case is right: its reply is the verdict, and its part the name or nothing
-pub record Answers (house site : List ℕ) (tag : ℕ) (l : Lookup) : Type 0 where
+pub record Decided (house site : List ℕ) (tag : ℕ) (l : Lookup) : Type 0 where
   pub replied : replyOf l ≡ verdict (nameChecks house site tag)
   pub given : partOf l ≡ partFor house site tag

@@ -3,7 +3,7 @@
 ghost use mathlib.Core.Path.{_≡_};
 ghost use Prim.Native.Nat.{_<_};
 ghost use Rattle.model.specs.Refusals.{verdict};
-ghost use Rattle.names.specs.Names.{malformed, names, byTag, nameChecks, partFor, IsPart, found, Answers};
+ghost use Rattle.names.specs.Names.{malformed, names, byTag, nameChecks, partFor, IsPart, found, Decided};
 
 // The two name tables that are lent (document 01: the house's and the site's vocabulary).
 pub enum Table {
@@ -87,7 +87,7 @@ fn find(house: &[u8], site: &[u8], tag: usize) -> Found
 
 // The request, decided: refusals 21 and 22, or the name.
 fn look_up(house: &[u8], site: &[u8], tag: u16) -> Lookup
-    ensures { λ r. ⌜ Answers (now (house .entry)) (now (site .entry)) tag r ⌝ }
+    ensures { λ r. ⌜ Decided (now (house .entry)) (now (site .entry)) tag r ⌝ }
 {
     if is_malformed(house) {
         return Lookup::Refused(model::reply_at(21, 0));

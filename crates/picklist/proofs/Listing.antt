@@ -1,25 +1,25 @@
--- The loop over the pages of a pick list: what is known of the rows printed so far, and that they come to an end.
+-- The loop over the pages of answers: what is known of the rows printed so far, and that they come to an end.
 use Prim.Native.Nat.{ℕ, zero, suc, _+_, _-_, _*_, _/_, _≤_, _<_, min}
 use native.Mathlib.Nat.{mul-le-mul-right}
 use native.Mathlib.Omega.{arith}
 use mathlib.Core.Path.{_≡_, refl, sym, ap, _∙_}
 use mathlib.Core.Bool.{Bool, true, false}
 use mathlib.Core.List.{List, [], _∷_, _++_, map}
-use lib.Dec.{ltb, eqb}
-use lib.ListN.{length, take, drop, length-append, length-take, length-drop}
+use lib.Dec.{eqb}
+use lib.ListN.{length, drop, length-append, length-take, length-drop}
 use borrow.Author.Tests.{eqb-true, eq-eqb, ltb-true}
 use Rattle.model.specs.declared.Cursor.{Cursor}
 use Rattle.model.specs.declared.Reply.{Reply}
 use Rattle.model.specs.declared.PageReply.{PageReply}
 use Rattle.model.specs.Tree.{sizeOf}
 use Rattle.model.specs.Answers.{Row, blocks, allRows, consIf, keep, satisfied, answers}
-use Rattle.model.specs.Pages.{after, moved, some, paged}
+use Rattle.model.specs.Pages.{after, paged}
 use Rattle.model.specs.Refusals.{verdict}
 use Rattle.model.specs.Checks.{treeChecks, queryChecks, cursorChecks, roomChecks, pageChecks}
 use Rattle.model.proofs.Accepted.{tree-numbered, query-numbered, columns-least}
-use Rattle.model.proofs.Answers.{Wide, Rising, answers-rising, answers-wide}
+use Rattle.model.proofs.Answers.{answers-rising, answers-wide}
 use Rattle.model.proofs.Booleans.{Seen, yes!, no!, seen}
-use Rattle.model.proofs.Refusals.{Passes, Passes-front}
+use Rattle.model.proofs.Refusals.{Passes-front}
 use Rattle.answers.specs.Page.{pageOutcome, Leaves}
 use Rattle.answers.proofs.Accepted.{page-few, page-tree}
 use Rattle.answers.proofs.Paging.{after-page, some-after}

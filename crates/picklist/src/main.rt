@@ -1,6 +1,5 @@
 // The program: the job file on standard input to its pick list on standard output (document 01: 'The job file'). What is
-// printed is decided in `job` and `answers`; this crate moves bytes.
-ghost use mathlib.Core.Path.{_≡_};
+// printed is decided in `job`, `answers` and `lines`; this crate moves bytes.
 ghost use Prim.Native.Nat.{_*_, _≤_};
 ghost use lib.ListN.{length};
 ghost use Rattle.job.specs.JobFile.{endOf};
@@ -8,14 +7,14 @@ ghost use Rattle.job.specs.JobFile.{endOf};
 // The one line of a refused job.
 fn print_refusal(reply: model::Reply) {
     let mut out = [0; 64];
-    let n = job::refused_line(&mut out, 0, reply);
+    let n = lines::refused_line(&mut out, 0, reply);
     io::write_all(1, &out[..n]);
 }
 
 // The line after the rows.
 fn print_end(total: usize) {
     let mut out = [0; 64];
-    let n = job::end_line(&mut out, 0, total);
+    let n = lines::end_line(&mut out, 0, total);
     io::write_all(1, &out[..n]);
 }
 
@@ -24,11 +23,11 @@ fn print_rows(rows: &[u16], k: usize, count: usize)
     requires { ⌜ (count * k ≤ length (now rows)) × (length (now rows) ≤ 3072) ⌝ }
 {
     let mut out = [0; 18432];
-    let n = job::row_lines(&mut out, 0, rows, k, count);
+    let n = lines::row_lines(&mut out, 0, rows, k, count);
     io::write_all(1, &out[..n]);
 }
 
-// The pick list, a page at a time: 3,072 numbers are whole rows for 1, 2 and 3 columns. What is refused is refused by the
+// The pick list, a page at a time: 3,072 numbers are whole rows for 1, 2 and 3 variables. What is refused is refused by the
 // first page, before a line is printed.
 fn print_list(tree: &[u16], query: &[u16], columns: usize) {
     let mut rows = [0; 3072];
@@ -60,7 +59,10 @@ fn print_list(tree: &[u16], query: &[u16], columns: usize) {
 
 // The parts of an accepted file, as numbers: it has at most 4,084 bytes before its trailer, which are 2,042 numbers.
 fn print_parts(file: &[u8], tree: job::Span, query: job::Span, columns: usize)
-    requires { ⌜ (length (now file) ≤ 4096) × ((endOf tree ≤ length (now file)) × (endOf query ≤ length (now file))) ⌝ }
+    requires { ⌜
+        ((endOf tree ≤ length (now file)) × (tree .count ≤ 2042))
+        × ((endOf query ≤ length (now file)) × (query .count ≤ 2042))
+        ⌝ }
 {
     let mut tree_numbers = [0; 2048];
     let mut query_numbers = [0; 2048];
@@ -75,6 +77,7 @@ fn print_parts(file: &[u8], tree: job::Span, query: job::Span, columns: usize)
     );
 }
 
+// What is printed for a file.
 fn print_file(file: &[u8]) {
     let job = job::open(file);
     let reply = job.reply;

@@ -5,7 +5,7 @@ ghost use Prim.Native.Nat.{_*_, _≤_, _<_};
 ghost use lib.ListN.{getD};
 ghost use Rattle.model.specs.QueryTable.{entriesOf, kind, entry, lastOf};
 ghost use Rattle.model.specs.Refusals.{lowest, verdict};
-ghost use Rattle.model.specs.Checks.{leftPath, leftExpr, rightPath, rightExpr, namesVariable, hasLeft, hasRight, badQueryLength, badColumns, badKind, badField, badOperand, badSort, badEntry, misused, badLast, useChecks, entryChecks, queryChecks};
+ghost use Rattle.model.specs.Checks.{leftPath, leftExpr, rightPath, rightExpr, namesVariable, hasLeft, hasRight, badQueryLength, badVariableCount, badKind, badField, badOperand, badSort, badEntry, misused, badLast, useChecks, entryChecks, queryChecks};
 ghost use Rattle.query.specs.Uses.{oneMore, withUse, Counted};
 
 // Reading the table.
@@ -78,12 +78,14 @@ fn names_variable(k: usize) -> bool
     (k == 6) | (k == 12)
 }
 
+// The kind has a left operand.
 fn has_left(k: usize) -> bool
     ensures { λ r. ⌜ r ≡ hasLeft k ⌝ }
 {
     left_path(k) | left_expr(k)
 }
 
+// The kind has a right operand.
 fn has_right(k: usize) -> bool
     ensures { λ r. ⌜ r ≡ hasRight k ⌝ }
 {
@@ -93,28 +95,28 @@ fn has_right(k: usize) -> bool
 // The tests of the single checks, by the number of their refusal.
 
 // 8: the table is empty, no multiple of four, or too long.
-fn bad_query_length(l: usize) -> bool
+fn is_bad_query_length(l: usize) -> bool
     ensures { λ r. ⌜ r ≡ badQueryLength l ⌝ }
 {
     (l == 0) | ((l % 4 != 0) | (256 < l))
 }
 
 // 9: there are too few variables for the service, or more than 3.
-fn bad_columns(least: usize, columns: usize) -> bool
-    ensures { λ r. ⌜ r ≡ badColumns least columns ⌝ }
+fn is_bad_variable_count(least: usize, columns: usize) -> bool
+    ensures { λ r. ⌜ r ≡ badVariableCount least columns ⌝ }
 {
     (columns < least) | (3 < columns)
 }
 
 // 10: the kind is unknown.
-fn bad_kind(f: model::Entry) -> bool
+fn is_bad_kind(f: model::Entry) -> bool
     ensures { λ r. ⌜ r ≡ badKind f ⌝ }
 {
     12 < f.kind
 }
 
 // 11: an axis or a variable is out of range, a step's tag is 65534, or an unnamed field is not 0.
-fn bad_field(columns: usize, f: model::Entry) -> bool
+fn is_bad_field(columns: usize, f: model::Entry) -> bool
     ensures { λ r. ⌜ r ≡ badField columns f ⌝ }
 {
     let k = f.kind;
@@ -124,7 +126,7 @@ fn bad_field(columns: usize, f: model::Entry) -> bool
 }
 
 // 12: an operand of entry e does not come before it.
-fn bad_operand(e: usize, f: model::Entry) -> bool
+fn is_bad_operand(e: usize, f: model::Entry) -> bool
     ensures { λ r. ⌜ r ≡ badOperand e f ⌝ }
 {
     let k = f.kind;
@@ -132,7 +134,7 @@ fn bad_operand(e: usize, f: model::Entry) -> bool
 }
 
 // 13: an operand is of the wrong sort, with l and r the kinds of the operands.
-fn bad_sort(k: usize, l: usize, r: usize) -> bool
+fn is_bad_sort(k: usize, l: usize, r: usize) -> bool
     ensures { λ b. ⌜ b ≡ badSort k l r ⌝ }
 {
     ((left_path(k) & !(l < 8)) | (left_expr(k) & (l < 8)))
@@ -140,7 +142,7 @@ fn bad_sort(k: usize, l: usize, r: usize) -> bool
 }
 
 // 15: the last entry is a node expression.
-fn bad_last(query: &[u16], last: usize) -> bool
+fn is_bad_last(query: &[u16], last: usize) -> bool
     requires { ⌜ last ≡ lastOf (now query) ⌝ }
     ensures { λ r. ⌜ r ≡ badLast (now (query .entry)) ⌝ }
 {
@@ -223,33 +225,33 @@ fn lowest_misused(query: &[u16], n: usize) -> usize
 // The checks 10 to 13, each by its number over all entries.
 
 // Entry e fails the check.
-fn bad_entry(query: &[u16], columns: usize, check: usize, e: usize) -> bool
+fn is_bad_entry(query: &[u16], columns: usize, check: usize, e: usize) -> bool
     requires { ⌜ (e < entriesOf (now query)) × (10 ≤ check) ⌝ }
     ensures { λ r. ⌜ r ≡ badEntry (now (query .entry)) columns check e ⌝ }
 {
     let f = entry_at(query, e);
     if check == 10 {
-        return bad_kind(f);
+        return is_bad_kind(f);
     }
     if check == 11 {
-        return bad_field(columns, f);
+        return is_bad_field(columns, f);
     }
     if check == 12 {
-        return bad_operand(e, f);
+        return is_bad_operand(e, f);
     }
     let l = kind_at(query, f.left);
     let r = kind_at(query, f.right);
-    bad_sort(f.kind, l, r)
+    is_bad_sort(f.kind, l, r)
 }
 
-// The lowest of the first n entries that fails the check, or n.
+// The lowest of the first n entries that fails the check, or n. One turn an entry.
 fn lowest_bad_entry(query: &[u16], columns: usize, check: usize, n: usize) -> usize
     requires { ⌜ (n ≤ entriesOf (now query)) × (10 ≤ check) ⌝ }
     ensures { λ r. ⌜ r ≡ lowest n (badEntry (now (query .entry)) columns check) ⌝ }
 {
     let mut e = 0;
     while e < n {
-        if bad_entry(query, columns, check, e) {
+        if is_bad_entry(query, columns, check, e) {
             return e;
         }
         e += 1;
@@ -270,7 +272,7 @@ fn check_uses(query: &[u16]) -> model::Reply
     if e < last {
         return model::reply_at(14, e);
     }
-    if bad_last(query, last) {
+    if is_bad_last(query, last) {
         return model::reply_at(15, last);
     }
     model::reply_at(0, 0)
@@ -305,10 +307,10 @@ fn check_entries(query: &[u16], columns: usize) -> model::Reply
 pub fn check_query_for(query: &[u16], least: usize, columns: usize) -> model::Reply
     ensures { λ r. ⌜ r ≡ verdict (queryChecks (now (query .entry)) least columns) ⌝ }
 {
-    if bad_query_length(query.len()) {
+    if is_bad_query_length(query.len()) {
         return model::reply_at(8, 0);
     }
-    if bad_columns(least, columns) {
+    if is_bad_variable_count(least, columns) {
         return model::reply_at(9, 0);
     }
     check_entries(query, columns)

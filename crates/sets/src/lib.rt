@@ -1,9 +1,10 @@
 // Node sets by value: 256 bytes, each 0 or 1, and 0 for every number that is no node.
-// Each function makes at most one pass over the bytes, O(n) or 256 steps, with no branch in it: the passes compile to vector code.
+// Each function makes at most one pass over the bytes, O(n) or 256 steps, with no branch on a byte: the passes compile to
+// vector code.
 ghost use mathlib.Core.Path.{_≡_};
 ghost use mathlib.Core.Bool.{true};
 ghost use mathlib.Core.List.{_++_};
-ghost use Prim.Native.Nat.{ℕ, _≤_, _<_};
+ghost use Prim.Native.Nat.{_≤_, _<_};
 ghost use lib.ListN.{length, drop};
 ghost use Rattle.model.specs.Sets.{any, bit, tab, memb, upto};
 ghost use Rattle.sets.specs.NodeSets.{always, only, combine, combination};

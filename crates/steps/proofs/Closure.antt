@@ -6,8 +6,8 @@ use mathlib.Core.Logic.{_⊎_, inl, inr, ⊎-elim}
 use mathlib.Core.Bool.{Bool, true, false, _&&_, _||_}
 use lib.Dec.{ltb, eqb}
 use borrow.Author.Tests.{ltb-true, lt-ltb, le-ltb, eq-eqb, eqb-true}
-use Rattle.model.proofs.Booleans.{Seen, yes!, no!, seen, both-yes, yes-left, yes-right, or-left, or-right, or-cases}
-use Rattle.steps.specs.Moves.{hop, hops, plus, star}
+use Rattle.model.proofs.Booleans.{Seen, yes!, no!, seen, no-yes, both-yes, yes-left, yes-right, or-left, or-right, or-cases}
+use Rattle.steps.specs.Moves.{hop, hops, plus, star, along}
 
 module _ (L : ℕ → ℕ) where
   -- one hop
@@ -131,3 +131,19 @@ module _ (L : ℕ → ℕ) where
   plus-split = plus-elim (λ x y. (z : ℕ) × (hop L x z ≡ true) × (star L z y ≡ true))
       (λ x y f e. (y, hop-of x y f e, star-self y))
       (λ x y f w. let (z, q, r) = w in (z, q, star-more z y f r))
+
+  -- one hop, or where closed is set one or more
+
+  pub along-one : (closed : Bool) (x y : ℕ) → hop L x y ≡ true → along closed L x y ≡ true
+  along-one true x y h = plus-one x y (hop-falls x y h) (hop-is x y h)
+  along-one false x y h = h
+
+  -- one hop, and then more
+  pub along-more : (closed : Bool) (x z y : ℕ) → closed ≡ true → hop L x z ≡ true → along closed L z y ≡ true → along closed L x y ≡ true
+  along-more true x z y e h q = plus-trans x z y (along-one true x z h) q
+  along-more false x z y e h q = no-yes refl e
+
+  -- the hop that ends at x, and where closed is set more from there
+  pub along-split : (closed : Bool) (x y : ℕ) → along closed L x y ≡ true → (z : ℕ) × (z ≤ y) × (hop L x z ≡ true) × ((z ≡ y) ⊎ ((closed && along closed L z y) ≡ true))
+  along-split true x y h = let (z, q, r) = plus-split x y h in (z, star-lower z y r, q, star-cases z y r)
+  along-split false x y h = (y, omega arith, h, inl refl)

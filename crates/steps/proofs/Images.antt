@@ -9,7 +9,7 @@ use lib.Dec.{eqb}
 use borrow.Author.Tests.{eq-eqb, ne-eqb}
 use Rattle.model.specs.Sets.{any, tab, memb, upto, turn, image}
 use Rattle.model.specs.Tree.{Tree, treeOf, sizeOf}
-use Rattle.model.specs.Axes.{nowhere, following, followingSibling, axis, passes, steps}
+use Rattle.model.specs.Axes.{noAxis, following, followingSibling, axis, passes, steps}
 use Rattle.model.proofs.Booleans.{bool-ext, both-yes, yes-left, yes-right}
 use Rattle.model.proofs.Exists.{any-intro, any-elim, any-cong, any-one}
 use Rattle.model.proofs.Axes.{eqb-comm}
@@ -99,7 +99,7 @@ module _ (t prev : List ℕ) (k : Linked t prev) where
       ∷ star (links t)
       ∷ [])
       h
-      nowhere
+      noAxis
 
   forward-moves : (h x y : ℕ) → y < sizeOf t → forward (treeOf t) h x y ≡ moves h x y
   unfolding forward moves

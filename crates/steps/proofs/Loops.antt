@@ -1,11 +1,10 @@
--- Laws of the four loops that move a set along a link.
+-- Laws of the two loops that move a set along a link, by one hop or, where closed is set, by one or more.
 use Prim.Native.Nat.{ℕ, suc, _+_, _-_, _≤_, _<_}
 use native.Mathlib.Nat.{eq-or-lt-of-le}
-use native.Mathlib.Numerals.{add-one}
 use native.Mathlib.Omega.{arith}
 use mathlib.Core.Path.{_≡_, refl, sym, ap, _∙_}
 use mathlib.Core.Logic.{⊎-elim}
-use mathlib.Core.Bool.{Bool, true, false, not, _&&_, _||_, and-false}
+use mathlib.Core.Bool.{Bool, true, false, not, _&&_, _||_, and-false, or-false}
 use mathlib.Core.List.{List}
 use lib.ListN.{getD, set, replicate, length-set}
 use lib.Seq.{getD-set-same, getD-set-other}
@@ -15,8 +14,8 @@ use Rattle.model.specs.Sets.{any, bit, tab, memb, upto, turn, image}
 use Rattle.model.proofs.Booleans.{no-yes, bool-ext, both-yes, yes-left, yes-right, or-left, or-right, or-cases}
 use Rattle.model.proofs.Exists.{any-intro, any-elim}
 use Rattle.model.proofs.Bytes.{length-tab, getD-tab, tab-of, tab-cong, memb-tab, fill-start, fill-store, fill-none}
-use Rattle.steps.specs.Moves.{hop, plus}
-use Rattle.steps.proofs.Closure.{hop-of, hop-falls, hop-is, plus-falls, plus-cases, plus-one, plus-more, plus-lower, plus-trans, plus-split, star-cases, star-lower}
+use Rattle.steps.specs.Moves.{hop, plus, along}
+use Rattle.steps.proofs.Closure.{hop-of, hop-falls, hop-is, plus-falls, plus-cases, plus-one, plus-more, along-one, along-more, along-split}
 
 -- what the nodes below n that are in S reach
 unfoldable pub reach : ℕ → (ℕ → ℕ → Bool) → (ℕ → Bool) → ℕ → Bool
@@ -51,31 +50,31 @@ module _ (L : ℕ → ℕ) (n : ℕ) (S : ℕ → Bool) where
       (λ q. let (x, h, s, r) = reach-out n (plus L) S (L y) q in reach-in n (plus L) S x y h s (plus-more L x y f r))
       (or-cases (S (L y)) (reach n (plus L) S (L y)) (yes-right (ltb (L y) y) (S (L y) || reach n (plus L) S (L y)) p)))
 
-  -- T at a node is G at its link
-  module _ (T G : ℕ → Bool) (at : (y : ℕ) → y < n → T y ≡ (ltb (L y) y && G (L y))) (r : List ℕ) (y p : ℕ) (e : r ≡ tab 256 (upto y T)) (f : p ≡ L y) (l : y < n) where
-    from-link : (v : ℕ) → p < y → n ≤ 256 → v ≡ bit (G p) → set r y v ≡ tab 256 (upto (y + 1) T)
-    from-link v m k g = fill-store 256 T r y v e (g ∙ rw (at y l, sym f, lt-ltb p y m)) (omega arith)
+module _ (L : ℕ → ℕ) (n : ℕ) (S : ℕ → Bool) (closed : Bool) where
+  -- what the set reaches
+  unfoldable pub gathered : ℕ → Bool
+  gathered y = reach n (along closed L) S y
 
-    no-link : y ≤ p → r ≡ tab 256 (upto (y + 1) T)
-    no-link m = fill-none 256 T r y e (rw (at y l, sym f, le-ltb p y m))
+  -- a node's byte, from what its link has
+  at-link : (y : ℕ) → y < n → gathered y ≡ (ltb (L y) y && (S (L y) || (closed && gathered (L y))))
+  unfolding gathered
+  at-link y l = go closed
+    where
+      go : (c : Bool) → reach n (along c L) S y ≡ (ltb (L y) y && (S (L y) || (c && reach n (along c L) S (L y))))
+      go true = plus-at L n S y l
+      go false = hop-at L n S y l ∙ ap (λ (b : Bool). ltb (L y) y && b) (sym (or-false (S (L y))))
 
-  module _ (r : List ℕ) (y p : ℕ) where
-    pub gather-store : (v : ℕ) → r ≡ tab 256 (upto y (reach n (hop L) S)) → p ≡ L y → p < y → y < n → n ≤ 256 → v ≡ bit (S p) → set r y v ≡ tab 256 (upto (y + 1) (reach n (hop L) S))
-    gather-store v e f m l k g = from-link (reach n (hop L) S) S hop-at r y p e f l v m k g
-
-    pub gather-skip : r ≡ tab 256 (upto y (reach n (hop L) S)) → p ≡ L y → y ≤ p → y < n → r ≡ tab 256 (upto (y + 1) (reach n (hop L) S))
-    gather-skip e f m l = no-link (reach n (hop L) S) S hop-at r y p e f l m
-
+  module _ (r : List ℕ) (y p : ℕ) (e : r ≡ tab 256 (upto y gathered)) (f : p ≡ L y) (l : y < n) where
     -- the link's own byte is there already
-    pub closed-store : (v : ℕ) → r ≡ tab 256 (upto y (reach n (plus L) S)) → p ≡ L y → p < y → y < n → n ≤ 256 → v ≡ bit (S p || memb r p) → set r y v ≡ tab 256 (upto (y + 1) (reach n (plus L) S))
+    pub gather-store : (v : ℕ) → p < y → n ≤ 256 → v ≡ bit (S p || (closed && memb r p)) → set r y v ≡ tab 256 (upto (y + 1) gathered)
     unfolding upto
-    closed-store v e f m l k g = from-link (reach n (plus L) S) (λ q. S q || reach n (plus L) S q) plus-at r y p e f l v m k (g ∙ ap (λ (b : Bool). bit (S p || b)) there)
+    gather-store v m k g = fill-store 256 gathered r y v e (g ∙ ap (λ (b : Bool). bit (S p || (closed && b))) there ∙ rw (at-link y l, sym f, lt-ltb p y m)) (omega arith)
       where
-        there : memb r p ≡ reach n (plus L) S p
-        there = rw e (memb-tab 256 (λ k. ltb k y && reach n (plus L) S k) p (omega arith) ∙ rw (lt-ltb p y m))
+        there : memb r p ≡ gathered p
+        there = rw e (memb-tab 256 (λ k. ltb k y && gathered k) p (omega arith) ∙ rw (lt-ltb p y m))
 
-    pub closed-skip : r ≡ tab 256 (upto y (reach n (plus L) S)) → p ≡ L y → y ≤ p → y < n → r ≡ tab 256 (upto (y + 1) (reach n (plus L) S))
-    closed-skip e f m l = no-link (reach n (plus L) S) (λ q. S q || reach n (plus L) S q) plus-at r y p e f l m
+    pub gather-skip : y ≤ p → r ≡ tab 256 (upto (y + 1) gathered)
+    gather-skip m = fill-none 256 gathered r y e (rw (at-link y l, sym f, le-ltb p y m))
 
 -- scatter: each node's link is set from its byte
 
@@ -111,96 +110,90 @@ module _ (L : ℕ → ℕ) (a : Bool) (y p : ℕ) (F G : ℕ → Bool) (more : (
       none true false c h = refl
       none false b c h = and-false b
 
-module _ (L : ℕ → ℕ) (S : ℕ → Bool) where
-  pub scatter-start : replicate 256 0 ≡ tab 256 (reach 0 (turn true (hop L)) S)
-  unfolding reach any
-  scatter-start = nothing (reach 0 (turn true (hop L)) S) (λ x. refl)
+-- the nodes from the last down: a node's byte is final before its link is set
 
-  scatter-more : (y x : ℕ) → reach (y + 1) (turn true (hop L)) S x ≡ ((S y && hop L x y) || reach y (turn true (hop L)) S x)
-  unfolding reach any
-  scatter-more y x = rw (add-one y)
+module _ (L : ℕ → ℕ) (n : ℕ) (S : ℕ → Bool) (closed : Bool) where
+  abbrev U : ℕ → Bool
+  U = reach n (turn true (along closed L)) S
 
-  module _ (r : List ℕ) (y p : ℕ) where
-    pub scatter-store : r ≡ tab 256 (reach y (turn true (hop L)) S) → p ≡ L y → (ltb p y && S y) ≡ true → p < 256 → set r p 1 ≡ tab 256 (reach (y + 1) (turn true (hop L)) S)
-    scatter-store e f t l = sent L (S y) y p (reach y (turn true (hop L)) S) (reach (y + 1) (turn true (hop L)) S) (scatter-more y) r e f t l
-
-    pub scatter-skip : r ≡ tab 256 (reach y (turn true (hop L)) S) → p ≡ L y → (ltb p y && S y) ≡ false → r ≡ tab 256 (reach (y + 1) (turn true (hop L)) S)
-    scatter-skip e f t = kept L (S y) y p (reach y (turn true (hop L)) S) (reach (y + 1) (turn true (hop L)) S) (scatter-more y) r e f t
-
-  pub scatter-done : (n : ℕ) (r : List ℕ) (i : ℕ) → r ≡ tab 256 (reach i (turn true (hop L)) S) → i ≤ n → n ≤ i → r ≡ tab 256 (image n (turn true (hop L)) S)
-  unfolding image reach
-  scatter-done n r i e a b =
-      e ∙ ap (λ (k : ℕ). tab 256 (reach k (turn true (hop L)) S)) (let w : i ≡ n = omega arith in w)
-      ∙ below n (reach n (turn true (hop L)) S) (λ x p. let (y, l, s, h) = reach-out n (turn true (hop L)) S x p in
-      let f : L y < y = hop-falls L x y h in let g : L y ≡ x = hop-is L x y h in omega arith)
-
--- the same in descending order, closed: a node's byte is final before its link is set
-
-module _ (L : ℕ → ℕ) (n : ℕ) (S : ℕ → Bool) where
-  -- in the set, or a link of one in it, once or more
-  unfoldable pub behind : ℕ → Bool
-  behind z = S z || reach n (turn true (plus L)) S z
+  -- in the set or, where closed is set, a link of one in it, once or more
+  unfoldable pub sending : ℕ → Bool
+  sending z = S z || (closed && U z)
 
   -- what has been set when the nodes from i on are done
   unfoldable pub part : ℕ → ℕ → Bool
-  part i x = any n (λ z. not (ltb z i) && (behind z && hop L x z))
+  part i x = any n (λ z. not (ltb z i) && (sending z && hop L x z))
 
-  part-in : (i x z : ℕ) → z < n → i ≤ z → behind z ≡ true → hop L x z ≡ true → part i x ≡ true
+  part-in : (i x z : ℕ) → z < n → i ≤ z → sending z ≡ true → hop L x z ≡ true → part i x ≡ true
   unfolding part
-  part-in i x z l a s h = any-intro n (λ z. not (ltb z i) && (behind z && hop L x z)) z l (both-yes (ap not (le-ltb z i a)) (both-yes s h))
+  part-in i x z l a s h = any-intro n (λ z. not (ltb z i) && (sending z && hop L x z)) z l (both-yes (ap not (le-ltb z i a)) (both-yes s h))
 
-  part-out : (i x : ℕ) → part i x ≡ true → (z : ℕ) × (z < n) × (i ≤ z) × (behind z ≡ true) × (hop L x z ≡ true)
+  part-out : (i x : ℕ) → part i x ≡ true → (z : ℕ) × (z < n) × (i ≤ z) × (sending z ≡ true) × (hop L x z ≡ true)
   unfolding part
   part-out i x p =
-      let (z, l, q) = any-elim n (λ z. not (ltb z i) && (behind z && hop L x z)) p in
-      let r : (behind z && hop L x z) ≡ true = yes-right (not (ltb z i)) (behind z && hop L x z) q in
-      (z, l, ltb-false z i (not-true (ltb z i) (yes-left (not (ltb z i)) (behind z && hop L x z) q)), yes-left (behind z) (hop L x z) r, yes-right (behind z) (hop L x z) r)
+      let (z, l, q) = any-elim n (λ z. not (ltb z i) && (sending z && hop L x z)) p in
+      let r : (sending z && hop L x z) ≡ true = yes-right (not (ltb z i)) (sending z && hop L x z) q in
+      (z, l, ltb-false z i (not-true (ltb z i) (yes-left (not (ltb z i)) (sending z && hop L x z) q)), yes-left (sending z) (hop L x z) r, yes-right (sending z) (hop L x z) r)
+
+  -- what a node sends reaches its link
+  sent-on : (x z : ℕ) → z < n → sending z ≡ true → hop L x z ≡ true → U x ≡ true
+  unfolding sending
+  sent-on x z l s h = ⊎-elim
+      (λ t. reach-in n (turn true (along closed L)) S z x l t (along-one L closed x z h))
+      (λ t. let (y, k, s, q) = reach-out n (turn true (along closed L)) S z (yes-right closed (U z) t) in
+      reach-in n (turn true (along closed L)) S y x k s (along-more L closed x z y (yes-left closed (U z) t) h q))
+      (or-cases (S z) (closed && U z) s)
+
+  -- what reaches a node is sent by one whose link it is
+  sent-by : (x : ℕ) → U x ≡ true → (z : ℕ) × (z < n) × (sending z ≡ true) × (hop L x z ≡ true)
+  unfolding sending
+  sent-by x p =
+      let (y, k, s, q) = reach-out n (turn true (along closed L)) S x p in
+      let (z, m, h, r) = along-split L closed x y q in (
+        z,
+        (omega arith),
+        ⊎-elim (λ w. or-left (S z) (closed && U z) (ap S w ∙ s))
+            (λ w. or-right (S z) (closed && U z) (both-yes (yes-left closed (along closed L z y) w) (reach-in n (turn true (along closed L)) S y z k s (yes-right closed (along closed L z y) w)))) r,
+        h,
+      )
 
   -- all hops that end at x are from i on
-  part-all : (i x : ℕ) → i ≤ suc x → part i x ≡ reach n (turn true (plus L)) S x
-  unfolding behind
-  part-all i x a = bool-ext (part i x) (reach n (turn true (plus L)) S x)
-      (λ p. let (z, l, b, s, h) = part-out i x p in
-      let one : plus L x z ≡ true = plus-one L x z (hop-falls L x z h) (hop-is L x z h) in
-      ⊎-elim (λ t. reach-in n (turn true (plus L)) S z x l t one)
-      (λ t. let (y, k, s, q) = reach-out n (turn true (plus L)) S z t in reach-in n (turn true (plus L)) S y x k s (plus-trans L x z y one q))
-      (or-cases (S z) (reach n (turn true (plus L)) S z) s))
-      (λ p. let (y, k, s, q) = reach-out n (turn true (plus L)) S x p in
-      let (z, h, r) = plus-split L x y q in
-      let f : L z < z = hop-falls L x z h in let e : L z ≡ x = hop-is L x z h in let m : z ≤ y = star-lower L z y r in
-      part-in i x z (omega arith) (omega arith)
-      (⊎-elim (λ w. or-left (S z) (reach n (turn true (plus L)) S z) (ap S w ∙ s)) (λ w. or-right (S z) (reach n (turn true (plus L)) S z) (reach-in n (turn true (plus L)) S y z k s w)) (star-cases L z y r)) h)
+  part-all : (i x : ℕ) → i ≤ suc x → part i x ≡ U x
+  part-all i x a = bool-ext (part i x) (U x)
+      (λ p. let (z, l, b, s, h) = part-out i x p in sent-on x z l s h)
+      (λ p. let (z, l, s, h) = sent-by x p in
+      let f : L z < z = hop-falls L x z h in let e : L z ≡ x = hop-is L x z h in part-in i x z l (omega arith) s h)
 
-  part-more : (y x : ℕ) → y < n → part y x ≡ ((behind y && hop L x y) || part (suc y) x)
-  part-more y x l = bool-ext (part y x) ((behind y && hop L x y) || part (suc y) x)
+  part-more : (y x : ℕ) → y < n → part y x ≡ ((sending y && hop L x y) || part (suc y) x)
+  part-more y x l = bool-ext (part y x) ((sending y && hop L x y) || part (suc y) x)
       (λ p. let (z, m, b, s, h) = part-out y x p in
-      ⊎-elim (λ e. or-left (behind y && hop L x y) (part (suc y) x) (rw e (both-yes s h))) (λ k. or-right (behind y && hop L x y) (part (suc y) x) (part-in (suc y) x z m k s h)) (eq-or-lt-of-le b))
-      (λ p. ⊎-elim (λ q. part-in y x y l (omega arith) (yes-left (behind y) (hop L x y) q) (yes-right (behind y) (hop L x y) q))
+      ⊎-elim (λ e. or-left (sending y && hop L x y) (part (suc y) x) (rw e (both-yes s h))) (λ k. or-right (sending y && hop L x y) (part (suc y) x) (part-in (suc y) x z m k s h)) (eq-or-lt-of-le b))
+      (λ p. ⊎-elim (λ q. part-in y x y l (omega arith) (yes-left (sending y) (hop L x y) q) (yes-right (sending y) (hop L x y) q))
       (λ q. let (z, m, b, s, h) = part-out (suc y) x q in part-in y x z m (omega arith) s h)
-      (or-cases (behind y && hop L x y) (part (suc y) x) p))
+      (or-cases (sending y && hop L x y) (part (suc y) x) p))
 
   pub part-start : replicate 256 0 ≡ tab 256 (part n)
   part-start = nothing (part n) (λ x. bool-ext (part n x) false (λ p. let (z, l, b, s, h) = part-out n x p in absurd (omega arith)) (λ p. no-yes refl p))
 
   module _ (r : List ℕ) (i p : ℕ) (e : r ≡ tab 256 (part i)) (f : p ≡ L (i - 1)) (l : i ≤ n) (k : n ≤ 256) (o : 0 < i) where
-    more : (x : ℕ) → part (i - 1) x ≡ ((behind (i - 1) && hop L x (i - 1)) || part i x)
-    more x = part-more (i - 1) x (omega arith) ∙ ap (λ (j : ℕ). (behind (i - 1) && hop L x (i - 1)) || part j x) (let w : suc (i - 1) ≡ i = omega arith in w)
+    more : (x : ℕ) → part (i - 1) x ≡ ((sending (i - 1) && hop L x (i - 1)) || part i x)
+    more x = part-more (i - 1) x (omega arith) ∙ ap (λ (j : ℕ). (sending (i - 1) && hop L x (i - 1)) || part j x) (let w : suc (i - 1) ≡ i = omega arith in w)
 
-    final : (S (i - 1) || memb r (i - 1)) ≡ behind (i - 1)
-    unfolding behind
-    final = ap (λ (b : Bool). S (i - 1) || b) (rw e (memb-tab 256 (part i) (i - 1) (omega arith) ∙ part-all i (i - 1) (omega arith)))
+    final : (S (i - 1) || (closed && memb r (i - 1))) ≡ sending (i - 1)
+    unfolding sending
+    final = ap (λ (b : Bool). S (i - 1) || (closed && b)) (rw e (memb-tab 256 (part i) (i - 1) (omega arith) ∙ part-all i (i - 1) (omega arith)))
 
-    pub part-store : (ltb p (i - 1) && (S (i - 1) || memb r (i - 1))) ≡ true → p < 256 → set r p 1 ≡ tab 256 (part (i - 1))
-    part-store t m = sent L (behind (i - 1)) (i - 1) p (part i) (part (i - 1)) more r e f (ap (λ (b : Bool). ltb p (i - 1) && b) (sym final) ∙ t) m
+    pub part-store : (ltb p (i - 1) && (S (i - 1) || (closed && memb r (i - 1)))) ≡ true → p < 256 → set r p 1 ≡ tab 256 (part (i - 1))
+    part-store t m = sent L (sending (i - 1)) (i - 1) p (part i) (part (i - 1)) more r e f (ap (λ (b : Bool). ltb p (i - 1) && b) (sym final) ∙ t) m
 
-    pub part-skip : (ltb p (i - 1) && (S (i - 1) || memb r (i - 1))) ≡ false → r ≡ tab 256 (part (i - 1))
-    part-skip t = kept L (behind (i - 1)) (i - 1) p (part i) (part (i - 1)) more r e f (ap (λ (b : Bool). ltb p (i - 1) && b) (sym final) ∙ t)
+    pub part-skip : (ltb p (i - 1) && (S (i - 1) || (closed && memb r (i - 1)))) ≡ false → r ≡ tab 256 (part (i - 1))
+    part-skip t = kept L (sending (i - 1)) (i - 1) p (part i) (part (i - 1)) more r e f (ap (λ (b : Bool). ltb p (i - 1) && b) (sym final) ∙ t)
 
-  pub part-done : (r : List ℕ) (i : ℕ) → r ≡ tab 256 (part i) → i ≤ 0 → r ≡ tab 256 (image n (turn true (plus L)) S)
+  pub part-done : (r : List ℕ) (i : ℕ) → r ≡ tab 256 (part i) → i ≤ 0 → r ≡ tab 256 (image n (turn true (along closed L)) S)
   unfolding image reach
   part-done r i e a =
-      e ∙ tab-cong 256 (part i) (reach n (turn true (plus L)) S) (λ x l. part-all i x (omega arith))
-      ∙ below n (reach n (turn true (plus L)) S) (λ x p. let (y, l, s, h) = reach-out n (turn true (plus L)) S x p in let w : x < y = plus-lower L x y h in omega arith)
+      e ∙ tab-cong 256 (part i) U (λ x l. part-all i x (omega arith))
+      ∙ below n U (λ x p. let (z, l, s, h) = sent-by x p in let f : L z < z = hop-falls L x z h in let g : L z ≡ x = hop-is L x z h in omega arith)
 
 -- a link that a byte is sent to is lower than its node
 pub sends-below : (p y k : ℕ) (a : Bool) → (ltb p y && a) ≡ true → y ≤ k → p < k

@@ -1,11 +1,11 @@
 -- Moves along links: for a node y a number L y, which is y's link where it is lower than y, and no link else.
 use Prim.Native.Nat.{ℕ, zero, suc}
-use mathlib.Core.Bool.{Bool, false, _&&_, _||_}
+use mathlib.Core.Bool.{Bool, true, false, _&&_, _||_}
 use mathlib.Core.List.{List, [], _∷_}
 use lib.ListN.{getD}
 use lib.Dec.{ltb, eqb}
 use Rattle.model.specs.Tree.{Tree, treeOf, sizeOf}
-use Rattle.model.specs.Axes.{self, child, right, descendant, following, followingSibling, descendantOrSelf, nowhere}
+use Rattle.model.specs.Axes.{self, child, right, descendant, following, followingSibling, descendantOrSelf, noAxis}
 use Rattle.model.specs.Accepted.{Ordered}
 use Rattle.tree.specs.Links.{PreviousSiblings}
 
@@ -22,11 +22,17 @@ hops L (suc k) x y = ltb (L y) y && (eqb (L y) x || hops L k x (L y))
 unfoldable pub plus : (ℕ → ℕ) → ℕ → ℕ → Bool
 plus L x y = hops L y x y
 
+-- one hop, or where closed is set one or more
+abbrev pub along : Bool → (ℕ → ℕ) → ℕ → ℕ → Bool
+along true L = plus L
+along false L = hop L
+
 -- no hop, one or more
 unfoldable pub star : (ℕ → ℕ) → ℕ → ℕ → Bool
 star L x y = eqb x y || plus L x y
 
--- the forward axes by half of their code, rounded up; each axis is one of them or the converse of one (proofs/Axes.antt: axis-turn)
+-- the forward axes by half of their code, rounded up; each axis is one of them or the converse of one
+-- (proofs/Axes.antt: axis-turn)
 unfoldable pub forward : Tree → ℕ → ℕ → ℕ → Bool
 forward t h =
     getD
@@ -39,7 +45,7 @@ forward t h =
     ∷ descendantOrSelf t
     ∷ [])
     h
-    nowhere
+    noAxis
 
 -- a tree table in document order, and the previous siblings of its nodes
 pub record Linked (t prev : List ℕ) : Type 0 where

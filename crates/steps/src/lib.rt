@@ -3,78 +3,45 @@
 // Every function here is O(n).
 ghost use mathlib.Core.Path.{_≡_};
 ghost use mathlib.Core.Bool.{true};
-ghost use Prim.Native.Nat.{ℕ, _*_, _≤_, _<_};
+ghost use Prim.Native.Nat.{_*_, _≤_, _<_};
 ghost use lib.ListN.{length};
 ghost use lib.Dec.{eqb};
 ghost use Rattle.model.specs.Sets.{tab, memb, upto, turn, image};
 ghost use Rattle.model.specs.Tree.{treeOf, sizeOf};
 ghost use Rattle.model.specs.Axes.{following, axis, passes, steps};
 ghost use Rattle.tree.specs.Links.{links};
-ghost use Rattle.steps.specs.Moves.{hop, plus, star, forward, Linked};
+ghost use Rattle.steps.specs.Moves.{along, star, forward, Linked};
 
-// From each node to those whose link it is. One pass.
-fn gather(link: &[u16], n: usize, from: [u8; 256]) -> [u8; 256]
+// From each node to those whose link it is; by one hop or more where closed is set. One pass: the byte of the link is final
+// before it is read.
+fn gather(link: &[u16], n: usize, closed: bool, from: [u8; 256]) -> [u8; 256]
     requires { ⌜ (n ≤ 256) × (2 * n ≤ length (now link)) ⌝ }
-    ensures { λ r. ⌜ r ≡ tab 256 (image n (hop (links (now (link .entry)))) (memb from)) ⌝ }
+    ensures { λ r. ⌜ r ≡ tab 256 (image n (along closed (links (now (link .entry)))) (memb from)) ⌝ }
 {
     let mut r = [0u8; 256];
     let mut y = 0;
     while y < n {
         let p = model::wide(link[2 * y]);
         if p < y {
-            r[y] = sets::byte(from[p] != 0);
+            r[y] = sets::byte((from[p] != 0) | (closed & (r[p] != 0)));
         }
         y += 1;
     }
     r
 }
 
-// The same by one hop or more. One pass: the byte of the link is final before it is read.
-fn gather_closed(link: &[u16], n: usize, from: [u8; 256]) -> [u8; 256]
+// From each node to its link; by one hop or more where closed is set. One pass from the last node down: a node's byte is
+// final before its link is set.
+fn scatter(link: &[u16], n: usize, closed: bool, from: [u8; 256]) -> [u8; 256]
     requires { ⌜ (n ≤ 256) × (2 * n ≤ length (now link)) ⌝ }
-    ensures { λ r. ⌜ r ≡ tab 256 (image n (plus (links (now (link .entry)))) (memb from)) ⌝ }
-{
-    let mut r = [0u8; 256];
-    let mut y = 0;
-    while y < n {
-        let p = model::wide(link[2 * y]);
-        if p < y {
-            r[y] = sets::byte((from[p] != 0) | (r[p] != 0));
-        }
-        y += 1;
-    }
-    r
-}
-
-// From each node to its link. One pass.
-fn scatter(link: &[u16], n: usize, from: [u8; 256]) -> [u8; 256]
-    requires { ⌜ (n ≤ 256) × (2 * n ≤ length (now link)) ⌝ }
-    ensures { λ r. ⌜ r ≡ tab 256 (image n (turn true (hop (links (now (link .entry))))) (memb from)) ⌝ }
-{
-    let mut r = [0u8; 256];
-    let mut y = 0;
-    while y < n {
-        let p = model::wide(link[2 * y]);
-        let sends = (p < y) & (from[y] != 0);
-        if sends {
-            r[p] = 1;
-        }
-        y += 1;
-    }
-    r
-}
-
-// The same by one hop or more. One pass from the last node down: a node's byte is final before its link is set.
-fn scatter_closed(link: &[u16], n: usize, from: [u8; 256]) -> [u8; 256]
-    requires { ⌜ (n ≤ 256) × (2 * n ≤ length (now link)) ⌝ }
-    ensures { λ r. ⌜ r ≡ tab 256 (image n (turn true (plus (links (now (link .entry))))) (memb from)) ⌝ }
+    ensures { λ r. ⌜ r ≡ tab 256 (image n (turn true (along closed (links (now (link .entry))))) (memb from)) ⌝ }
 {
     let mut r = [0u8; 256];
     let mut i = n;
     while 0 < i {
         let y = i - 1;
         let p = model::wide(link[2 * y]);
-        let sends = (p < y) & ((from[y] != 0) | (r[y] != 0));
+        let sends = (p < y) & ((from[y] != 0) | (closed & (r[y] != 0)));
         if sends {
             r[p] = 1;
         }
@@ -83,26 +50,15 @@ fn scatter_closed(link: &[u16], n: usize, from: [u8; 256]) -> [u8; 256]
     r
 }
 
-// One hop along a link, away from node 0, or back.
-fn hop_image(link: &[u16], n: usize, back: bool, from: [u8; 256]) -> [u8; 256]
+// One hop along a link, or one or more where closed is set: away from node 0, or back.
+fn link_image(link: &[u16], n: usize, closed: bool, back: bool, from: [u8; 256]) -> [u8; 256]
     requires { ⌜ (n ≤ 256) × (2 * n ≤ length (now link)) ⌝ }
-    ensures { λ r. ⌜ r ≡ tab 256 (image n (turn back (hop (links (now (link .entry))))) (memb from)) ⌝ }
+    ensures { λ r. ⌜ r ≡ tab 256 (image n (turn back (along closed (links (now (link .entry))))) (memb from)) ⌝ }
 {
     if back {
-        return scatter(link, n, from);
+        return scatter(link, n, closed, from);
     }
-    gather(link, n, from)
-}
-
-// One hop or more.
-fn plus_image(link: &[u16], n: usize, back: bool, from: [u8; 256]) -> [u8; 256]
-    requires { ⌜ (n ≤ 256) × (2 * n ≤ length (now link)) ⌝ }
-    ensures { λ r. ⌜ r ≡ tab 256 (image n (turn back (plus (links (now (link .entry))))) (memb from)) ⌝ }
-{
-    if back {
-        return scatter_closed(link, n, from);
-    }
-    gather_closed(link, n, from)
+    gather(link, n, closed, from)
 }
 
 // The set itself, as far as it is below n.
@@ -120,44 +76,52 @@ fn star_image(link: &[u16], n: usize, back: bool, from: [u8; 256]) -> [u8; 256]
     ensures { λ r. ⌜ r ≡ tab 256 (image n (turn back (star (links (now (link .entry))))) (memb from)) ⌝ }
 {
     let a = self_image(n, back, from);
-    let b = plus_image(link, n, back, from);
+    let b = link_image(link, n, true, back, from);
     sets::combined(sets::UNION, a, b)
 }
 
 // Following, or its converse, preceding: up or stay, along the siblings, down or stay. Three passes.
 fn following_image(tree: &[u16], prev: &[u16], back: bool, from: [u8; 256]) -> [u8; 256]
     requires { ⌜ Linked (now tree) (now prev) ⌝ }
-    ensures { λ r. ⌜ r ≡ tab 256 (image (sizeOf (now (tree .entry))) (turn back (following (treeOf (now (tree .entry))))) (memb from)) ⌝ }
+    ensures { λ r.
+        ⌜
+        r
+        ≡ tab 256 (image (sizeOf (now (tree .entry))) (turn back (following (treeOf (now (tree .entry))))) (memb from))
+        ⌝ }
 {
     let n = tree.len() / 2;
     let a = star_image(tree, n, true, from);
-    let b = plus_image(prev, n, back, a);
+    let b = link_image(prev, n, true, back, a);
     star_image(tree, n, false, b)
 }
 
 // A forward axis, by half of its code rounded up, or its converse.
 fn forward_image(tree: &[u16], prev: &[u16], h: usize, back: bool, from: [u8; 256]) -> [u8; 256]
     requires { ⌜ Linked (now tree) (now prev) × (h ≤ 6) ⌝ }
-    ensures { λ r. ⌜ r ≡ tab 256 (image (sizeOf (now (tree .entry))) (turn back (forward (treeOf (now (tree .entry))) h)) (memb from)) ⌝ }
+    ensures { λ r.
+        ⌜
+        r
+        ≡ tab 256 (image (sizeOf (now (tree .entry))) (turn back (forward (treeOf (now (tree .entry))) h)) (memb from))
+        ⌝ }
 {
     let n = tree.len() / 2;
     if h == 0 {
         return self_image(n, back, from);
     }
     if h == 1 {
-        return hop_image(tree, n, back, from);
+        return link_image(tree, n, false, back, from);
     }
     if h == 2 {
-        return hop_image(prev, n, back, from);
+        return link_image(prev, n, false, back, from);
     }
     if h == 3 {
-        return plus_image(tree, n, back, from);
+        return link_image(tree, n, true, back, from);
     }
     if h == 4 {
         return following_image(tree, prev, back, from);
     }
     if h == 5 {
-        return plus_image(prev, n, back, from);
+        return link_image(prev, n, true, back, from);
     }
     star_image(tree, n, back, from)
 }
@@ -165,7 +129,11 @@ fn forward_image(tree: &[u16], prev: &[u16], h: usize, back: bool, from: [u8; 25
 // An axis by its code, or its converse: an even code is the converse of the forward axis beside it.
 fn axis_image(tree: &[u16], prev: &[u16], a: usize, back: bool, from: [u8; 256]) -> [u8; 256]
     requires { ⌜ Linked (now tree) (now prev) × (a ≤ 12) ⌝ }
-    ensures { λ r. ⌜ r ≡ tab 256 (image (sizeOf (now (tree .entry))) (turn back (axis (treeOf (now (tree .entry))) a)) (memb from)) ⌝ }
+    ensures { λ r.
+        ⌜
+        r
+        ≡ tab 256 (image (sizeOf (now (tree .entry))) (turn back (axis (treeOf (now (tree .entry))) a)) (memb from))
+        ⌝ }
 {
     let h = (a + 1) / 2;
     if a % 2 == 0 {
@@ -208,7 +176,11 @@ fn named_step(
     from: [u8; 256],
 ) -> [u8; 256]
     requires { ⌜ Linked (now tree) (now prev) × (a ≤ 12) ⌝ }
-    ensures { λ r. ⌜ r ≡ tab 256 (image (sizeOf (now (tree .entry))) (turn back (steps (treeOf (now (tree .entry))) a name)) (memb from)) ⌝ }
+    ensures { λ r.
+        ⌜
+        r
+        ≡ tab 256 (image (sizeOf (now (tree .entry))) (turn back (steps (treeOf (now (tree .entry))) a name)) (memb from))
+        ⌝ }
 {
     let s = named(tree, name);
     if back {
@@ -230,7 +202,11 @@ pub fn step(
     from: [u8; 256],
 ) -> [u8; 256]
     requires { ⌜ Linked (now tree) (now prev) × (a ≤ 12) ⌝ }
-    ensures { λ r. ⌜ r ≡ tab 256 (image (sizeOf (now (tree .entry))) (turn back (steps (treeOf (now (tree .entry))) a name)) (memb from)) ⌝ }
+    ensures { λ r.
+        ⌜
+        r
+        ≡ tab 256 (image (sizeOf (now (tree .entry))) (turn back (steps (treeOf (now (tree .entry))) a name)) (memb from))
+        ⌝ }
 {
     if name == 65535 {
         return axis_image(tree, prev, a, back, from);

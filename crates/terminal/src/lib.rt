@@ -4,7 +4,7 @@ ghost use mathlib.Core.Path.{_≡_};
 ghost use mathlib.Core.Bool.{true, false};
 ghost use Rattle.model.specs.Refusals.{verdict};
 ghost use Rattle.model.specs.Checks.{treeChecks, queryChecks};
-ghost use Rattle.images.specs.Services.{imageReply, imageBuffer, pairsReply, pairsBuffer};
+ghost use Rattle.images.specs.Services.{ImageLeaves, PairsLeave};
 ghost use Rattle.answers.specs.Page.{pageOutcome, Leaves};
 ghost use Rattle.names.specs.Names.{nameChecks, partFor, IsPart};
 
@@ -34,7 +34,12 @@ pub extern "C" fn gz_forwards(
     from: &[u8],
     to: &mut [u8],
 ) -> model::Reply
-    ensures { λ r. ⌜ (r ≡ imageReply (now (tree .entry)) (now (query .entry)) columns (now (nodes .entry)) (now (from .entry)) (now (to .entry))) × (now (to .exit) ≡ imageBuffer (now (tree .entry)) (now (query .entry)) columns (now (nodes .entry)) false (now (from .entry)) (now (to .entry))) ⌝ }
+    ensures { λ r.
+        ⌜
+        ImageLeaves (now (tree .entry)) (now (query .entry))
+        columns (now (nodes .entry)) false (now (from .entry)) (now (to .entry))
+        r (now (to .exit))
+        ⌝ }
 {
     images::forwards(tree, query, model::wide(columns), nodes, from, to)
 }
@@ -49,7 +54,12 @@ pub extern "C" fn gz_backwards(
     from: &[u8],
     to: &mut [u8],
 ) -> model::Reply
-    ensures { λ r. ⌜ (r ≡ imageReply (now (tree .entry)) (now (query .entry)) columns (now (nodes .entry)) (now (from .entry)) (now (to .entry))) × (now (to .exit) ≡ imageBuffer (now (tree .entry)) (now (query .entry)) columns (now (nodes .entry)) true (now (from .entry)) (now (to .entry))) ⌝ }
+    ensures { λ r.
+        ⌜
+        ImageLeaves (now (tree .entry)) (now (query .entry))
+        columns (now (nodes .entry)) true (now (from .entry)) (now (to .entry))
+        r (now (to .exit))
+        ⌝ }
 {
     images::backwards(tree, query, model::wide(columns), nodes, from, to)
 }
@@ -63,26 +73,14 @@ pub extern "C" fn gz_pairs(
     nodes: &[u16],
     table: &mut [u8],
 ) -> model::Reply
-    ensures { λ r. ⌜ (r ≡ pairsReply (now (tree .entry)) (now (query .entry)) columns (now (nodes .entry)) (now (table .entry))) × (now (table .exit) ≡ pairsBuffer (now (tree .entry)) (now (query .entry)) columns (now (nodes .entry)) (now (table .entry))) ⌝ }
-{
-    images::pairs(tree, query, model::wide(columns), nodes, table)
-}
-
-// The page after a cursor, by value: the reply, and the cursor after it.
-fn page_from(
-    tree: &[u16],
-    query: &[u16],
-    columns: u16,
-    cursor: model::Cursor,
-    rows: &mut [u16],
-) -> answers::Paged
     ensures { λ r.
         ⌜
-        Leaves (pageOutcome (now (tree .entry)) (now (query .entry)) columns cursor (now (rows .entry)))
-        (r .reply) (r .cursor) (now (rows .exit))
+        PairsLeave (now (tree .entry)) (now (query .entry))
+        columns (now (nodes .entry)) (now (table .entry))
+        r (now (table .exit))
         ⌝ }
 {
-    answers::page_from(tree, query, model::wide(columns), cursor, rows)
+    images::pairs(tree, query, model::wide(columns), nodes, table)
 }
 
 // The page of answers after the cursor that is lent, which moves on to the last row written.
@@ -100,9 +98,7 @@ pub extern "C" fn gz_page(
         r (now (cursor .exit)) (now (rows .exit))
         ⌝ }
 {
-    let p = page_from(tree, query, columns, *cursor, rows);
-    *cursor = p.cursor;
-    p.reply
+    answers::page(tree, query, columns as usize, cursor, rows)
 }
 
 // The name of a tag, as a part of the table that holds it.

@@ -1,19 +1,18 @@
 // The check of a tree table (refusals 5 to 7), and the links that evaluation walks. Both take time linear in the table's length.
 ghost use mathlib.Core.Path.{_≡_};
-ghost use lib.ListN.{length};
 ghost use mathlib.Core.Bool.{false};
 ghost use Prim.Native.Nat.{_<_};
 ghost use Rattle.model.specs.Sets.{any};
 ghost use Rattle.model.specs.Tree.{treeOf, sizeOf};
 ghost use Rattle.model.specs.Axes.{descendantOrSelf};
 ghost use Rattle.model.specs.Refusals.{lowest, verdict};
-ghost use Rattle.model.specs.Checks.{badTreeLength, badParent, badTag, treeChecks, badNode};
+ghost use Rattle.model.specs.Checks.{badTreeLength, badParent, badTag, treeChecks};
 ghost use Rattle.model.specs.Accepted.{Falling, Sound};
 ghost use Rattle.tree.specs.Checks.{nodeFails};
 ghost use Rattle.tree.specs.Links.{PreviousSiblings};
 
 // Refusal 5: whether a table of l numbers has a bad length.
-fn bad_length(l: usize) -> bool
+fn is_bad_length(l: usize) -> bool
     ensures { λ r. ⌜ r ≡ badTreeLength l ⌝ }
 {
     (l == 0) | ((l % 2 != 0) | (512 < l))
@@ -92,7 +91,7 @@ fn lowest_bad(tree: &[u16], k: usize) -> usize
 pub fn check_tree(tree: &[u16]) -> model::Reply
     ensures { λ r. ⌜ r ≡ verdict (treeChecks (now (tree .entry))) ⌝ }
 {
-    if bad_length(tree.len()) {
+    if is_bad_length(tree.len()) {
         return model::reply_at(5, 0);
     }
     let n = tree.len() / 2;
@@ -107,33 +106,8 @@ pub fn check_tree(tree: &[u16]) -> model::Reply
     model::reply_at(0, 0)
 }
 
-// Refusal 17: whether number k of a list is no node.
-fn is_bad_node(tree: &[u16], nodes: &[u16], k: usize) -> bool
-    requires { ⌜ k < length (now nodes) ⌝ }
-    ensures { λ r. ⌜ r ≡ badNode (now (tree .entry)) (now (nodes .entry)) k ⌝ }
-{
-    let n = tree.len() / 2;
-    let x = model::wide(nodes[k]);
-    !(x < n)
-}
-
-// The lowest number of a list that is no node, or the length of the list: for an assignment, and for the row of a cursor.
-pub fn lowest_bad_node(tree: &[u16], nodes: &[u16]) -> usize
-    ensures { λ r. ⌜ r ≡ lowest (length (now (nodes .entry))) (badNode (now (tree .entry)) (now (nodes .entry))) ⌝ }
-{
-    let n = nodes.len();
-    let mut k = 0;
-    while k < n {
-        if is_bad_node(tree, nodes, k) {
-            return k;
-        }
-        k += 1;
-    }
-    n
-}
-
-// Each node's previous sibling, or 65535 where it has none, where the table has the node's parent. A turn a node, which
-// takes the last child so far of the node's parent and becomes it.
+// Each node's previous sibling, or 65535 where it has none: at 2 × y, where a tree table has y's parent. One turn a node: it
+// reads the last child so far of its parent, and then is that child.
 pub fn previous_siblings(tree: &[u16]) -> [u16; 512]
     requires { ⌜ Sound (treeOf (now tree)) ⌝ }
     ensures { λ r. ⌜ PreviousSiblings (treeOf (now (tree .entry))) (sizeOf (now (tree .entry))) r ⌝ }

@@ -1,15 +1,15 @@
 // Calls of an evaluation, each with a buffer that is filled with a pattern: the reply is compared with the one that is due,
 // and the buffer afterwards with the bytes that are due.
-use super::line;
-use super::table;
-use super::tally;
+use harness::line;
+use harness::table;
+use harness::tally;
 
-// The services.
-pub const FORWARDS: usize = 0;
+// The services, by the letter of their lines.
+pub const FORWARDS: u8 = b'f';
 
-pub const BACKWARDS: usize = 1;
+pub const BACKWARDS: u8 = b'b';
 
-pub const PAIRS: usize = 2;
+pub const PAIRS: u8 = b'p';
 
 // What fills a buffer before a call: no byte that a service writes.
 pub const PATTERN: u8 = 7;
@@ -17,7 +17,7 @@ pub const PATTERN: u8 = 7;
 // A call: what is lent beside the tables (the number of variables, how much of the set and how much of the buffer), and
 // the reply that is due.
 pub struct Call {
-    pub service: usize,
+    pub service: u8,
     pub columns: usize,
     pub set: usize,
     pub room: usize,
@@ -26,7 +26,7 @@ pub struct Call {
 }
 
 // A reply that no service gives.
-pub fn no_reply() -> model::Reply {
+fn no_reply() -> model::Reply {
     model::Reply {
         number: 65535,
         place: 65535,
@@ -70,18 +70,6 @@ fn lend(
     serve(c, tree, query, nodes, &set[0..length], &mut to[0..room])
 }
 
-// The buffers agree, up to 64 bytes beyond the room that was lent.
-fn agree(to: &[u8], due: &[u8], room: usize) -> bool {
-    let end = std::num::wrapping_add_usize(room, 64);
-    if to.len() < end {
-        return false;
-    }
-    if due.len() < end {
-        return false;
-    }
-    check::same(&to[0..end], &due[0..end])
-}
-
 fn compare(
     tally: &mut tally::Tally,
     c: Call,
@@ -97,7 +85,7 @@ fn compare(
     let k = table::numbers(nodes);
     let got = lend(c, t, q, k, set, to);
     tally::expect_reply(tally, got, c.number, c.place);
-    tally::expect(tally, agree(to, due, c.room));
+    tally::expect_bytes(tally, to, due, c.room);
 }
 
 // A call on a buffer for a set.
@@ -133,7 +121,7 @@ pub fn run(
     tree: &table::Table,
     query: &table::Table,
     line: &line::Line,
-    service: usize,
+    service: u8,
 ) {
     let mut nodes = [0u16; 1025];
     let mut set = [0u8; 512];

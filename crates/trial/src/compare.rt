@@ -1,28 +1,22 @@
-// Random trees, queries and sets: the services compared with the evaluator of this crate.
+// Random trees, queries and sets: the services compared with the reference evaluator.
 use super::call;
-use super::line;
-use super::random;
-use super::reference;
-use super::table;
-use super::tally;
+use harness::table;
+use harness::tally;
+use reference::evaluator;
+use reference::random;
 
-fn columns(nodes: &table::Table) -> usize {
-    let numbers = table::numbers(nodes);
-    numbers.len()
-}
-
-// A call that is accepted, with room for so many bytes or a few more.
+// A call that is accepted, with a set of so many bytes, and room for as many as are needed or a few more.
 fn accepted(
     seed: &mut u64,
-    service: usize,
-    tree: &table::Table,
+    service: u8,
     nodes: &table::Table,
+    set: usize,
     needed: usize,
 ) -> call::Call {
     call::Call {
         service: service,
-        columns: columns(nodes),
-        set: table::size(tree),
+        columns: table::length(nodes),
+        set: set,
         room: std::num::wrapping_add_usize(needed, random::below(seed, 3)),
         number: 0,
         place: 0,
@@ -33,26 +27,20 @@ fn accepted(
 fn compare_image(
     tally: &mut tally::Tally,
     seed: &mut u64,
-    service: usize,
+    service: u8,
     tree: &table::Table,
     query: &table::Table,
     nodes: &table::Table,
-    pairs: &reference::Pairs,
+    pairs: &evaluator::Pairs,
 ) {
     let mut set = [0u8; 512];
     let mut due = [call::PATTERN; 512];
-    random::make_set(seed, &mut set, table::size(tree));
+    let n = table::size(tree);
+    random::make_set(seed, &mut set, n);
     let back = service == call::BACKWARDS;
-    let found = reference::image(
-        pairs,
-        table::last(query),
-        table::size(tree),
-        back,
-        &set,
-        &mut due,
-    );
+    let found = evaluator::image(pairs, table::last(query), n, back, &set, &mut due);
     tally::add(tally, tally::NODES, found as u64);
-    let c = accepted(seed, service, tree, nodes, table::size(tree));
+    let c = accepted(seed, service, nodes, n, n);
     call::compare_set(tally, c, tree, query, nodes, &set, &due);
 }
 
@@ -63,65 +51,43 @@ fn compare_pairs(
     tree: &table::Table,
     query: &table::Table,
     nodes: &table::Table,
-    pairs: &reference::Pairs,
+    pairs: &evaluator::Pairs,
 ) {
     let mut due = [call::PATTERN; 66560];
-    let found = reference::all_pairs(pairs, table::last(query), table::size(tree), &mut due);
+    let n = table::size(tree);
+    let found = evaluator::all_pairs(pairs, table::last(query), n, &mut due);
     tally::add(tally, tally::PAIRS, found as u64);
-    let mut c = accepted(
-        seed,
-        call::PAIRS,
-        tree,
-        nodes,
-        table::times(table::size(tree), table::size(tree)),
-    );
-    c.set = 0;
+    let c = accepted(seed, call::PAIRS, nodes, 0, table::times(n, n));
     call::compare_pairs(tally, c, tree, query, nodes, &due);
 }
 
-// All results of one tree, query and assignment.
-fn compare_all(
+// The images of two random sets each way.
+fn compare_images(
     tally: &mut tally::Tally,
     seed: &mut u64,
     tree: &table::Table,
     query: &table::Table,
     nodes: &table::Table,
-    pairs: &mut reference::Pairs,
+    pairs: &evaluator::Pairs,
 ) {
-    reference::fill(pairs, tree, query, nodes);
     compare_image(tally, seed, call::FORWARDS, tree, query, nodes, pairs);
     compare_image(tally, seed, call::FORWARDS, tree, query, nodes, pairs);
     compare_image(tally, seed, call::BACKWARDS, tree, query, nodes, pairs);
     compare_image(tally, seed, call::BACKWARDS, tree, query, nodes, pairs);
-    compare_pairs(tally, seed, tree, query, nodes, pairs);
 }
 
-fn compare_one(
+// All results of a tree and a query, under a random assignment.
+pub fn run(
     tally: &mut tally::Tally,
     seed: &mut u64,
-    line: &line::Line,
-    pairs: &mut reference::Pairs,
+    tree: &table::Table,
+    query: &table::Table,
+    columns: usize,
+    pairs: &mut evaluator::Pairs,
 ) {
-    let mut tree = [0u16; 1025];
-    let mut query = [0u16; 1025];
     let mut nodes = [0u16; 1025];
-    let n = random::between(seed, line::number(line, 1, 0), line::number(line, 1, 1));
-    let grown = random::between(seed, 1, line::number(line, 1, 2));
-    let columns = random::below(seed, 4);
-    random::make_tree(seed, &mut tree, n);
-    random::make_query(seed, &mut query, grown, columns);
-    random::make_nodes(seed, &mut nodes, columns, n);
-    compare_all(tally, seed, &tree, &query, &nodes, pairs);
-}
-
-// random SEED COUNT | LEAST MOST ENTRIES: so many trees, of LEAST to MOST nodes, and queries from a seed
-pub fn run(tally: &mut tally::Tally, line: &line::Line) {
-    let mut pairs = [0u8; 4194304];
-    let mut seed = line::number(line, 0, 0) as u64;
-    let count = line::number(line, 0, 1);
-    let mut i = 0;
-    while i < count {
-        compare_one(tally, &mut seed, line, &mut pairs);
-        i += 1;
-    }
+    random::make_nodes(seed, &mut nodes, columns, table::size(tree));
+    evaluator::fill(pairs, tree, query, &nodes);
+    compare_images(tally, seed, tree, query, &nodes, pairs);
+    compare_pairs(tally, seed, tree, query, &nodes, pairs);
 }

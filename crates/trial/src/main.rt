@@ -2,14 +2,9 @@
 // part made and how many of them failed; a comparison that fails has a line of its own. The input says what a line holds.
 mod call;
 mod compare;
-mod line;
-mod listing;
 mod pages;
-mod random;
-mod reference;
+mod paging;
 mod run;
-mod table;
-mod tally;
 
 fn main() {
     let mut text = io::large_buffer();

@@ -1,71 +1,14 @@
 // The checks of the input, by the first letter of their line. A check of a table also makes it the present one.
 use super::call;
 use super::compare;
-use super::line;
-use super::listing;
 use super::pages;
-use super::table;
-use super::tally;
-
-fn check_tree(tree: &table::Table) -> model::Reply {
-    tree::check_tree(table::numbers(tree))
-}
-
-fn check_query(query: &table::Table, columns: usize) -> model::Reply {
-    query::check_query(table::numbers(query), columns)
-}
-
-fn check_query_for(query: &table::Table, least: usize, columns: usize) -> model::Reply {
-    query::check_query_for(table::numbers(query), least, columns)
-}
-
-// Node x of a chain of nodes with tag 1.
-fn put_link(tree: &mut table::Table, x: usize) {
-    if x == 0 {
-        table::put(tree, 0, 65535);
-        table::put(tree, 1, 1);
-        return;
-    }
-    if x < 512 {
-        table::put(tree, 2 * x, x - 1);
-        table::put(tree, 2 * x + 1, 1);
-    }
-}
-
-fn fill_chain(tree: &mut table::Table) {
-    let mut x = 0;
-    while x < 512 {
-        put_link(tree, x);
-        x += 1;
-    }
-}
-
-// Entry e of a step below entries 'from the root', each over the one before.
-fn put_root(query: &mut table::Table, e: usize) {
-    if e == 0 {
-        *query = [0u16; 1025];
-        table::put(query, 3, 1);
-        return;
-    }
-    if e < 256 {
-        table::put(query, 4 * e, 7);
-        table::put(query, 4 * e + 1, e - 1);
-    }
-}
-
-fn fill_nested(query: &mut table::Table) {
-    let mut e = 0;
-    while e < 256 {
-        put_root(query, e);
-        e += 1;
-    }
-}
-
-// COUNT AT VALUE: only the first numbers of a table, and one of them another.
-fn damage(numbers: &mut table::Table, line: &line::Line) {
-    table::set_length(numbers, line::number(line, 1, 0));
-    table::put(numbers, line::number(line, 1, 1), line::number(line, 1, 2));
-}
+use super::paging;
+use harness::chains;
+use harness::line;
+use harness::table;
+use harness::tally;
+use reference::evaluator;
+use reference::random;
 
 // The first part of a line says which number and place are due.
 fn expect(tally: &mut tally::Tally, line: &line::Line, got: model::Reply) {
@@ -80,27 +23,27 @@ fn expect(tally: &mut tally::Tally, line: &line::Line, got: model::Reply) {
 // tree NUMBER PLACE | TABLE
 fn run_tree(tally: &mut tally::Tally, tree: &mut table::Table, line: &line::Line) {
     line::copy(line, 1, tree);
-    expect(tally, line, check_tree(tree));
+    expect(tally, line, tree::check_tree(table::numbers(tree)));
 }
 
 // chain NUMBER PLACE | COUNT AT VALUE
 fn run_chain(tally: &mut tally::Tally, tree: &mut table::Table, line: &line::Line) {
-    fill_chain(tree);
-    damage(tree, line);
-    expect(tally, line, check_tree(tree));
+    chains::make_chain(line, tree);
+    expect(tally, line, tree::check_tree(table::numbers(tree)));
 }
 
 // query NUMBER PLACE | COLUMNS | TABLE
 fn run_query(tally: &mut tally::Tally, query: &mut table::Table, line: &line::Line) {
     line::copy(line, 2, query);
-    expect(tally, line, check_query(query, line::number(line, 1, 0)));
+    let columns = line::number(line, 1, 0);
+    let got = query::check_query(table::numbers(query), columns);
+    expect(tally, line, got);
 }
 
 // nested NUMBER PLACE | COUNT AT VALUE
 fn run_nested(tally: &mut tally::Tally, query: &mut table::Table, line: &line::Line) {
-    fill_nested(query);
-    damage(query, line);
-    expect(tally, line, check_query(query, 0));
+    chains::make_nested(line, query);
+    expect(tally, line, query::check_query(table::numbers(query), 0));
 }
 
 // least NUMBER PLACE | LEAST COLUMNS | TABLE
@@ -108,21 +51,8 @@ fn run_least(tally: &mut tally::Tally, query: &mut table::Table, line: &line::Li
     line::copy(line, 2, query);
     let least = line::number(line, 1, 0);
     let columns = line::number(line, 1, 1);
-    expect(tally, line, check_query_for(query, least, columns));
-}
-
-// = NAME: a part of the input ends, which is the line from one place to another
-fn run_end(tally: &mut tally::Tally, text: &[u8], start: usize, end: usize) {
-    let name = std::num::wrapping_add_usize(start, 2);
-    if end <= name {
-        return;
-    }
-    if text.len() < end {
-        return;
-    }
-    io::write_all(1, &text[name..end - 1]);
-    io::write_all(1, b": ");
-    tally::show_part(tally);
+    let got = query::check_query_for(table::numbers(query), least, columns);
+    expect(tally, line, got);
 }
 
 // The lines that check a table.
@@ -154,7 +84,38 @@ fn run_table(
     }
 }
 
-// The lines that call an evaluation or a page.
+// One random tree and query.
+fn run_one(
+    tally: &mut tally::Tally,
+    seed: &mut u64,
+    line: &line::Line,
+    letter: u8,
+    pairs: &mut evaluator::Pairs,
+) {
+    let mut tree = [0u16; 1025];
+    let mut query = [0u16; 1025];
+    let columns = random::make_both(seed, line, &mut tree, &mut query);
+    if letter == b'r' {
+        compare::run(tally, seed, &tree, &query, columns, pairs);
+        return;
+    }
+    paging::run(tally, seed, &tree, &query, columns, pairs);
+}
+
+// random SEED COUNT | LEAST MOST ENTRIES: so many trees, of LEAST to MOST nodes, and queries from a seed
+// walks SEED COUNT | LEAST MOST ENTRIES | LEAST MOST: as random, with LEAST to MOST variables
+fn run_random(tally: &mut tally::Tally, line: &line::Line, letter: u8) {
+    let mut pairs = [0u8; 4194304];
+    let mut seed = line::number(line, 0, 0) as u64;
+    let count = line::number(line, 0, 1);
+    let mut i = 0;
+    while i < count {
+        run_one(tally, &mut seed, line, letter, &mut pairs);
+        i += 1;
+    }
+}
+
+// The lines that call an evaluation or a page, on the present tables or on random ones.
 fn run_call(
     tally: &mut tally::Tally,
     tree: &table::Table,
@@ -162,28 +123,16 @@ fn run_call(
     line: &line::Line,
     letter: u8,
 ) {
-    if letter == b'f' {
-        call::run(tally, tree, query, line, call::FORWARDS);
-        return;
-    }
-    if letter == b'b' {
-        call::run(tally, tree, query, line, call::BACKWARDS);
-        return;
-    }
-    if letter == b'p' {
-        call::run(tally, tree, query, line, call::PAIRS);
+    if (letter == call::FORWARDS) | (letter == call::BACKWARDS) | (letter == call::PAIRS) {
+        call::run(tally, tree, query, line, letter);
         return;
     }
     if letter == b'a' {
         pages::run(tally, tree, query, line);
         return;
     }
-    if letter == b'r' {
-        compare::run(tally, line);
-        return;
-    }
-    if letter == b'w' {
-        listing::run(tally, line);
+    if (letter == b'r') | (letter == b'w') {
+        run_random(tally, line, letter);
     }
 }
 
@@ -203,7 +152,7 @@ fn run_line(
     let next = line::read(text, start, &mut line);
     tally::next_line(tally);
     if letter == b'=' {
-        run_end(tally, text, start, next);
+        tally::end_part(tally, text, start, next);
         return next;
     }
     run_table(tally, tree, query, &line, letter);

@@ -30,7 +30,7 @@ use Rattle.eval.proofs.+by_rows+ends+node+operands+path.Lts-operands as
 use Rattle.eval.proofs.path.Reads as path
 use Rattle.eval.proofs.path.Kinds as path-kinds
 use Rattle.eval.proofs.+by_rows+ends+node+operands+path.Lts-path as path-lts
-use Rattle.eval.proofs.either.Reads as either-reads
+use Rattle.eval.proofs.choose.Reads as choose-reads
 use Rattle.eval.proofs.ending_image.Reads as ending-image-reads
 use Rattle.eval.proofs.variable.Reads as variable-reads
 use Rattle.eval.proofs.+by_rows+ends+node+operands+path.{statement}
@@ -95,7 +95,7 @@ abbrev operands-claims : ℕ → operands-lts.Claims
 operands-claims t = (entry-at-reads.Asked, entry-at-reads.Learnt, path-below t, path.Post, combined-reads.Asked, combined-reads.Learnt)
 
 abbrev path-claims : ℕ → path-lts.Claims
-path-claims t = (entry-at-reads.Asked, entry-at-reads.Learnt, step-reads.Asked, step-reads.Learnt, either-reads.Asked, either-reads.Learnt, path-below t, path.Post, operands-below t, operands.Post, by-rows-below t, by-rows.Post, node-below t, node.Post, combined-reads.Asked, combined-reads.Learnt, ends-below t, ends.Post, ending-image-reads.Asked, ending-image-reads.Learnt)
+path-claims t = (entry-at-reads.Asked, entry-at-reads.Learnt, step-reads.Asked, step-reads.Learnt, choose-reads.Asked, choose-reads.Learnt, path-below t, path.Post, operands-below t, operands.Post, by-rows-below t, by-rows.Post, node-below t, node.Post, combined-reads.Asked, combined-reads.Learnt, ends-below t, ends.Post, ending-image-reads.Asked, ending-image-reads.Learnt)
 
 abbrev by-rows-Inv-loop : by-rows-lts.InvT-loop
 by-rows-Inv-loop tree prev query nodes e back from n found₀ x₀ found x = (x ≤ n) × ((n ≡ sizeOf tree) × (found ≡ part tree query nodes e back from x))
@@ -229,17 +229,17 @@ path-step-requires t c κs = search (axis-known, needs)
 path-returns : (t : ℕ) → path-lts.Need-returns (path-claims t) (path-at t) path.Post
 path-returns t c = search (did-step, needs)
 
-path-either-requires : (t : ℕ) → path-lts.Need-either-requires (path-claims t) (path-at t) path.Post
-path-either-requires t c κs = search needs
+path-choose-requires : (t : ℕ) → path-lts.Need-choose-requires (path-claims t) (path-at t) path.Post
+path-choose-requires t c κs = search needs
 
-path-either-requires-2 : (t : ℕ) → path-lts.Need-either-requires-2 (path-claims t) (path-at t) path.Post
-path-either-requires-2 t c κs = search needs
+path-choose-requires-2 : (t : ℕ) → path-lts.Need-choose-requires-2 (path-claims t) (path-at t) path.Post
+path-choose-requires-2 t c κs = search needs
 
 path-path-requires : (t : ℕ) → path-lts.Need-path-requires (path-claims t) (path-at t) path.Post
-path-path-requires t c κs = let p = c .before .before .before .before .before .before .before .before .before .pre in let f = c .before .before .before .before .entry-at .ensures .0 in let k = kind-at f in let w = either-operand (c .before .before .before .before .before .before .before .before .before .args .back) (c .before .either .ensures) (right-path f (p .1 .0) (p .1 .1 .within) (path-on-right (omega arith) (omega arith))) (left-path f (p .1 .0) (p .1 .1 .within) (path-on-left (omega arith) (omega arith))) in (omega (arith, w .lower), (p .1 .0, w .kinds))
+path-path-requires t c κs = let p = c .before .before .before .before .before .before .before .before .before .pre in let f = c .before .before .before .before .entry-at .ensures .0 in let k = kind-at f in let w = either-operand (c .before .before .before .before .before .before .before .before .before .args .back) (c .before .choose .ensures) (right-path f (p .1 .0) (p .1 .1 .within) (path-on-right (omega arith) (omega arith))) (left-path f (p .1 .0) (p .1 .1 .within) (path-on-left (omega arith) (omega arith))) in (omega (arith, w .lower), (p .1 .0, w .kinds))
 
 path-path-requires-2 : (t : ℕ) → path-lts.Need-path-requires-2 (path-claims t) (path-at t) path.Post
-path-path-requires-2 t c κs = let p = c .before .before .before .before .before .before .before .before .before .before .pre in let f = c .before .before .before .before .before .entry-at .ensures .0 in let k = kind-at f in let w = either-operand (c .before .before .before .before .before .before .before .before .before .before .args .back) (c .before .either2 .ensures) (left-path f (p .1 .0) (p .1 .1 .within) (path-on-left (omega arith) (omega arith))) (right-path f (p .1 .0) (p .1 .1 .within) (path-on-right (omega arith) (omega arith))) in (omega (arith, w .lower), (p .1 .0, w .kinds))
+path-path-requires-2 t c κs = let p = c .before .before .before .before .before .before .before .before .before .before .pre in let f = c .before .before .before .before .before .entry-at .ensures .0 in let k = kind-at f in let w = either-operand (c .before .before .before .before .before .before .before .before .before .before .args .back) (c .before .choose2 .ensures) (left-path f (p .1 .0) (p .1 .1 .within) (path-on-left (omega arith) (omega arith))) (right-path f (p .1 .0) (p .1 .1 .within) (path-on-right (omega arith) (omega arith))) in (omega (arith, w .lower), (p .1 .0, w .kinds))
 
 path-returns-2 : (t : ℕ) → path-lts.Need-returns-2 (path-claims t) (path-at t) path.Post
 path-returns-2 t c = search (did-compose, needs)
@@ -347,8 +347,8 @@ pub +by-rows+ends+node+operands+path-spec : {M : Type 1} → statement M
     (path-entry-at-requires t)
     (path-step-requires t)
     (path-returns t)
-    (path-either-requires t)
-    (path-either-requires-2 t)
+    (path-choose-requires t)
+    (path-choose-requires-2 t)
     (path-path-requires t)
     (path-path-requires-2 t)
     (path-returns-2 t)

@@ -1,5 +1,5 @@
 -- `picklist::print_file` is safe and ends: the parts of an accepted file lie within it.
-use Rattle.picklist.proofs.Parts.{file-short, tree-inside, query-inside}
+use Rattle.job.proofs.Files.{parts-within}
 use borrow.Author.Needs.{needs}
 use Rattle.picklist.proofs.print_file.Statement.{statement}
 use Rattle.picklist.proofs.print_file.Tie as tie
@@ -17,7 +17,7 @@ wide-requires : tie.Need-wide-requires
 wide-requires c κs = search needs
 
 print-parts-requires : tie.Need-print-parts-requires
-print-parts-requires c κs = search (file-short, tree-inside, query-inside, needs)
+print-parts-requires c κs = search (parts-within, needs)
 
 returns-2 : tie.Need-returns-2
 returns-2 c = search needs

@@ -5,8 +5,8 @@ use Rattle.query.proofs.Entries.{few-entries}
 use Rattle.query.proofs.check_query_for.Statement.{statement}
 use Rattle.query.proofs.check_query_for.Tie as tie
 
-bad-query-length-requires : tie.Need-bad-query-length-requires
-bad-query-length-requires c κs = search needs
+is-bad-query-length-requires : tie.Need-is-bad-query-length-requires
+is-bad-query-length-requires c κs = search needs
 
 reply-at-requires : tie.Need-reply-at-requires
 reply-at-requires c κs = search needs
@@ -15,8 +15,8 @@ returns : tie.Need-returns
 unfolding queryChecks
 returns c = search (stop, pass, needs)
 
-bad-columns-requires : tie.Need-bad-columns-requires
-bad-columns-requires c κs = search needs
+is-bad-variable-count-requires : tie.Need-is-bad-variable-count-requires
+is-bad-variable-count-requires c κs = search needs
 
 reply-at-requires-2 : tie.Need-reply-at-requires-2
 reply-at-requires-2 c κs = search needs
@@ -26,7 +26,7 @@ unfolding queryChecks
 returns-2 c = search (stop, pass, needs)
 
 check-entries-requires : tie.Need-check-entries-requires
-check-entries-requires c κs = few-entries _ _ (c .before .before .before .bad-query-length .ensures) (c .before .before .if1 .left)
+check-entries-requires c κs = few-entries _ _ (c .before .before .before .is-bad-query-length .ensures) (c .before .before .if1 .left)
 
 returns-3 : tie.Need-returns-3
 unfolding queryChecks
@@ -36,10 +36,10 @@ pub check-query-for-spec : {M : Type 1} → statement M
 check-query-for-spec =
     tie.close
     (tie.spec
-    bad-query-length-requires
+    is-bad-query-length-requires
     reply-at-requires
     returns
-    bad-columns-requires
+    is-bad-variable-count-requires
     reply-at-requires-2
     returns-2
     check-entries-requires

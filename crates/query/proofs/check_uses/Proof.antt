@@ -15,8 +15,8 @@ reply-at-requires c κs = search needs
 returns : tie.Need-returns
 returns c = search (stop-at, needs)
 
-bad-last-requires : tie.Need-bad-last-requires
-bad-last-requires c κs = search needs
+is-bad-last-requires : tie.Need-is-bad-last-requires
+is-bad-last-requires c κs = search needs
 
 reply-at-requires-2 : tie.Need-reply-at-requires-2
 reply-at-requires-2 c κs = search needs
@@ -38,7 +38,7 @@ check-uses-spec =
     lowest-misused-requires
     reply-at-requires
     returns
-    bad-last-requires
+    is-bad-last-requires
     reply-at-requires-2
     returns-2
     reply-at-requires-3

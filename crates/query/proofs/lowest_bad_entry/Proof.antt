@@ -20,8 +20,8 @@ loop-holds : tie.Need-loop-holds Inv-loop μ-loop
 unfolding any
 loop-holds c = (omega arith, refl)
 
-bad-entry-requires : tie.Need-bad-entry-requires Inv-loop μ-loop
-bad-entry-requires c κs = search needs
+is-bad-entry-requires : tie.Need-is-bad-entry-requires Inv-loop μ-loop
+is-bad-entry-requires c κs = search needs
 
 returns : tie.Need-returns Inv-loop μ-loop
 returns c = search (found, needs)
@@ -45,7 +45,7 @@ lowest-bad-entry-spec =
     Inv-loop
     μ-loop
     loop-holds
-    bad-entry-requires
+    is-bad-entry-requires
     returns
     add-e
     loop-less

@@ -6,8 +6,8 @@ use Rattle.steps.proofs.following_image.Tie as tie
 star-image-requires : tie.Need-star-image-requires
 star-image-requires c κs = search needs
 
-plus-image-requires : tie.Need-plus-image-requires
-plus-image-requires c κs = search needs
+link-image-requires : tie.Need-link-image-requires
+link-image-requires c κs = search needs
 
 star-image-requires-2 : tie.Need-star-image-requires-2
 star-image-requires-2 c κs = search needs
@@ -17,4 +17,4 @@ returns c = search (following-by, needs)
 
 pub following-image-spec : {M : Type 1} → statement M
 following-image-spec =
-    tie.close (tie.spec star-image-requires plus-image-requires star-image-requires-2 returns)
+    tie.close (tie.spec star-image-requires link-image-requires star-image-requires-2 returns)

@@ -12,22 +12,22 @@ returns : tie.Need-returns
 unfolding moves
 returns c = search (forward-by, needs)
 
-hop-image-requires : tie.Need-hop-image-requires
-hop-image-requires c κs = search needs
+link-image-requires : tie.Need-link-image-requires
+link-image-requires c κs = search needs
 
 returns-2 : tie.Need-returns-2
 unfolding moves
 returns-2 c = search (forward-by, needs)
 
-hop-image-requires-2 : tie.Need-hop-image-requires-2
-hop-image-requires-2 c κs = search needs
+link-image-requires-2 : tie.Need-link-image-requires-2
+link-image-requires-2 c κs = search needs
 
 returns-3 : tie.Need-returns-3
 unfolding moves
 returns-3 c = search (forward-by, needs)
 
-plus-image-requires : tie.Need-plus-image-requires
-plus-image-requires c κs = search needs
+link-image-requires-3 : tie.Need-link-image-requires-3
+link-image-requires-3 c κs = search needs
 
 returns-4 : tie.Need-returns-4
 unfolding moves
@@ -40,8 +40,8 @@ returns-5 : tie.Need-returns-5
 unfolding moves
 returns-5 c = search (forward-by, needs)
 
-plus-image-requires-2 : tie.Need-plus-image-requires-2
-plus-image-requires-2 c κs = search needs
+link-image-requires-4 : tie.Need-link-image-requires-4
+link-image-requires-4 c κs = search needs
 
 returns-6 : tie.Need-returns-6
 unfolding moves
@@ -60,15 +60,15 @@ forward-image-spec =
     (tie.spec
     self-image-requires
     returns
-    hop-image-requires
+    link-image-requires
     returns-2
-    hop-image-requires-2
+    link-image-requires-2
     returns-3
-    plus-image-requires
+    link-image-requires-3
     returns-4
     following-image-requires
     returns-5
-    plus-image-requires-2
+    link-image-requires-4
     returns-6
     star-image-requires
     returns-7)

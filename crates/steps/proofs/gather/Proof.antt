@@ -6,16 +6,15 @@ use borrow.Author.Needs.{needs}
 use Rattle.model.specs.Sets.{tab, memb, upto, image}
 use Rattle.model.proofs.Bytes.{fill-start, fill-done}
 use Rattle.tree.specs.Links.{links}
-use Rattle.steps.specs.Moves.{hop}
-use Rattle.steps.proofs.Loops.{reach, gather-store, gather-skip}
+use Rattle.steps.proofs.Loops.{reach, gathered, gather-store, gather-skip}
 use Rattle.steps.proofs.gather.Statement.{statement}
 use Rattle.steps.proofs.gather.Tie as tie
 
 abbrev Inv-loop : tie.InvT-loop
-Inv-loop link n from r₀ y₀ r y = (y ≤ n) × (r ≡ tab 256 (upto y (reach n (hop (links link)) (memb from))))
+Inv-loop link n closed from r₀ y₀ r y = (y ≤ n) × (r ≡ tab 256 (upto y (gathered (links link) n (memb from) closed)))
 
 abbrev μ-loop : tie.MeasureT-loop
-μ-loop link n from r₀ y₀ r y = n - y
+μ-loop link n closed from r₀ y₀ r y = n - y
 
 loop-holds : tie.Need-loop-holds Inv-loop μ-loop
 loop-holds c = (omega arith, fill-start 256 _)
@@ -35,6 +34,9 @@ wide-requires c κs = search needs
 array-read-byte : tie.Need-array-read-byte Inv-loop μ-loop
 array-read-byte c = omega arith
 
+array-read-byte-2 : tie.Need-array-read-byte-2 Inv-loop μ-loop
+array-read-byte-2 c = omega arith
+
 byte-requires : tie.Need-byte-requires Inv-loop μ-loop
 byte-requires c κs = search needs
 
@@ -49,10 +51,10 @@ loop-less c = omega arith
 
 loop-again : tie.Need-loop-again Inv-loop μ-loop
 unfolding memb
-loop-again c = (omega arith, ⊎-elim (λ w. w .2 ∙ gather-store _ _ _ _ _ _ _ (c .before .before .before .before .loop .inv .1) (c .before .wide .ensures .0) (w .0 .taken) (c .before .before .before .loop-test .taken) (omega arith) (w .1 .ensures)) (λ w. w .1 ∙ gather-skip _ _ _ _ _ _ (c .before .before .before .before .loop .inv .1) (c .before .wide .ensures .0) (w .0 .left) (c .before .before .before .loop-test .taken)) (c .if1 .came))
+loop-again c = (omega arith, ⊎-elim (λ w. w .2 ∙ gather-store _ _ _ _ _ _ _ (c .before .before .before .before .loop .inv .1) (c .before .wide .ensures .0) (c .before .before .before .loop-test .taken) _ (w .0 .taken) (omega arith) (w .1 .ensures)) (λ w. w .1 ∙ gather-skip _ _ _ _ _ _ _ (c .before .before .before .before .loop .inv .1) (c .before .wide .ensures .0) (c .before .before .before .loop-test .taken) (w .0 .left)) (c .if1 .came))
 
 returns : tie.Need-returns Inv-loop μ-loop
-unfolding image reach
+unfolding image reach gathered
 returns c = fill-done 256 _ _ _ _ (c .before .loop .inv .1) (omega arith) (omega arith)
 
 pub gather-spec : {M : Type 1} → statement M
@@ -67,6 +69,7 @@ gather-spec =
     shared-slice-read-wide
     wide-requires
     array-read-byte
+    array-read-byte-2
     byte-requires
     array-write-r
     add-y

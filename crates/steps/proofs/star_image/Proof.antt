@@ -6,8 +6,8 @@ use Rattle.steps.proofs.star_image.Tie as tie
 self-image-requires : tie.Need-self-image-requires
 self-image-requires c κs = search needs
 
-plus-image-requires : tie.Need-plus-image-requires
-plus-image-requires c κs = search needs
+link-image-requires : tie.Need-link-image-requires
+link-image-requires c κs = search needs
 
 combined-requires : tie.Need-combined-requires
 combined-requires c κs = search needs
@@ -17,4 +17,4 @@ returns c = search (star-of, needs)
 
 pub star-image-spec : {M : Type 1} → statement M
 star-image-spec =
-    tie.close (tie.spec self-image-requires plus-image-requires combined-requires returns)
+    tie.close (tie.spec self-image-requires link-image-requires combined-requires returns)

@@ -1,0 +1,184 @@
+// What was compared.
+use super::table;
+
+// The replies by their number (0 to 22), and the sums below.
+pub type Tally = [u64; 32];
+
+// The line of the input, and how many comparisons there were and failed, in all and in this part.
+const LINE: usize = 23;
+
+const COMPARED: usize = 24;
+
+const FAILED: usize = 25;
+
+const COMPARED_HERE: usize = 26;
+
+const FAILED_HERE: usize = 27;
+
+// How many nodes, pairs and rows were in the results.
+pub const NODES: usize = 28;
+
+pub const PAIRS: usize = 29;
+
+pub const ROWS: usize = 30;
+
+pub fn add(tally: &mut Tally, at: usize, more: u64) {
+    if at < 32 {
+        let sum = std::num::wrapping_add_u64(tally[at], more);
+        tally[at] = sum;
+    }
+}
+
+fn clear(tally: &mut Tally, at: usize) {
+    if at < 32 {
+        tally[at] = 0;
+    }
+}
+
+fn sum_at(tally: &Tally, at: usize) -> u64 {
+    if at < 32 {
+        return tally[at];
+    }
+    0
+}
+
+pub fn next_line(tally: &mut Tally) {
+    add(tally, LINE, 1);
+}
+
+fn show_number(number: u64, then: &[u8]) {
+    io::print_decimal(1, number);
+    io::write_all(1, then);
+}
+
+// One comparison, and whether it held.
+pub fn expect(tally: &mut Tally, holds: bool) {
+    add(tally, COMPARED, 1);
+    add(tally, COMPARED_HERE, 1);
+    if holds {
+        return;
+    }
+    add(tally, FAILED, 1);
+    add(tally, FAILED_HERE, 1);
+    io::write_all(1, b"line ");
+    show_number(sum_at(tally, LINE), b": comparison ");
+    show_number(sum_at(tally, COMPARED_HERE), b" of this part failed\n");
+}
+
+// A reply compared with the number and the place that are due.
+pub fn expect_reply(tally: &mut Tally, got: model::Reply, number: usize, place: usize) {
+    let got_number = model::wide(got.number);
+    add(tally, got_number, 1);
+    expect(
+        tally,
+        (got_number == number) & (model::wide(got.place) == place),
+    );
+}
+
+fn same_bytes(got: &[u8], due: &[u8], room: usize) -> bool {
+    let end = std::num::wrapping_add_usize(room, 64);
+    if got.len() < end {
+        return false;
+    }
+    if due.len() < end {
+        return false;
+    }
+    check::same(&got[0..end], &due[0..end])
+}
+
+// A buffer compared with the bytes that are due, up to 64 bytes beyond the room that was lent.
+pub fn expect_bytes(tally: &mut Tally, got: &[u8], due: &[u8], room: usize) {
+    expect(tally, same_bytes(got, due, room));
+}
+
+fn same_number(got: &table::Rows, due: &table::Rows, at: usize) -> bool {
+    if at < 1024 {
+        return got[at] == due[at];
+    }
+    false
+}
+
+fn same_rows(got: &table::Rows, due: &table::Rows) -> bool {
+    let mut at = 0;
+    while at < 1024 {
+        if !same_number(got, due, at) {
+            return false;
+        }
+        at += 1;
+    }
+    true
+}
+
+// A buffer for rows compared with the whole of what is due.
+pub fn expect_rows(tally: &mut Tally, got: &table::Rows, due: &table::Rows) {
+    expect(tally, same_rows(got, due));
+}
+
+fn same_cursor(a: model::Cursor, b: model::Cursor) -> bool {
+    (a.begun == b.begun) & (a.first == b.first) & (a.second == b.second) & (a.third == b.third)
+}
+
+pub fn expect_cursor(tally: &mut Tally, got: model::Cursor, due: model::Cursor) {
+    expect(tally, same_cursor(got, due));
+}
+
+// The line for the part that ends here.
+fn show_part(tally: &mut Tally) {
+    show_number(sum_at(tally, COMPARED_HERE), b" compared, ");
+    show_number(sum_at(tally, FAILED_HERE), b" failed\n");
+    clear(tally, COMPARED_HERE);
+    clear(tally, FAILED_HERE);
+}
+
+// A part of the input ends, with the line `= NAME` from one place of the text to another.
+pub fn end_part(tally: &mut Tally, text: &[u8], start: usize, end: usize) {
+    let name = std::num::wrapping_add_usize(start, 2);
+    if end <= name {
+        return;
+    }
+    if text.len() < end {
+        return;
+    }
+    io::write_all(1, &text[name..end - 1]);
+    io::write_all(1, b": ");
+    show_part(tally);
+}
+
+// A line for the replies with a number, if there were any.
+fn show_reply(tally: &Tally, number: usize) {
+    let count = sum_at(tally, number);
+    if count == 0 {
+        return;
+    }
+    io::write_all(1, b"replies ");
+    show_number(number as u64, b": ");
+    show_number(count, b"\n");
+}
+
+fn show_replies(tally: &Tally) {
+    let mut number = 0;
+    while number < 23 {
+        show_reply(tally, number);
+        number += 1;
+    }
+}
+
+// A line for what the results held, if they held any.
+fn show_found(tally: &Tally, at: usize, name: &[u8]) {
+    let count = sum_at(tally, at);
+    if count == 0 {
+        return;
+    }
+    io::write_all(1, name);
+    show_number(count, b"\n");
+}
+
+pub fn show_all(tally: &Tally) {
+    show_replies(tally);
+    show_found(tally, NODES, b"nodes in results: ");
+    show_found(tally, PAIRS, b"pairs in tables: ");
+    show_found(tally, ROWS, b"rows in pages: ");
+    io::write_all(1, b"in all: ");
+    show_number(sum_at(tally, COMPARED), b" compared, ");
+    show_number(sum_at(tally, FAILED), b" failed\n");
+}

@@ -1,0 +1,28 @@
+use borrow.Author.Needs.{needs}
+use Rattle.query.proofs.is_bad_sort.Statement.{statement}
+use Rattle.query.proofs.is_bad_sort.Tie as tie
+
+left-path-requires : tie.Need-left-path-requires
+left-path-requires c κs = search needs
+
+left-expr-requires : tie.Need-left-expr-requires
+left-expr-requires c κs = search needs
+
+right-path-requires : tie.Need-right-path-requires
+right-path-requires c κs = search needs
+
+right-expr-requires : tie.Need-right-expr-requires
+right-expr-requires c κs = search needs
+
+returns : tie.Need-returns
+returns c = cc
+
+pub is-bad-sort-spec : {M : Type 1} → statement M
+is-bad-sort-spec =
+    tie.close
+    (tie.spec
+    left-path-requires
+    left-expr-requires
+    right-path-requires
+    right-expr-requires
+    returns)

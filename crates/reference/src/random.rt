@@ -1,0 +1,342 @@
+// Trees and queries from a seed. Each is accepted by the way it is made.
+use harness::line;
+use harness::table;
+
+// The next number of the seed (xorshift).
+fn next(seed: &mut u64) -> u64 {
+    let a = *seed ^ (*seed << 13);
+    let b = a ^ (a >> 7);
+    let c = b ^ (b << 17);
+    *seed = c;
+    c
+}
+
+// A number below n; 0 where there is none.
+pub fn below(seed: &mut u64, n: usize) -> usize {
+    if n == 0 {
+        return 0;
+    }
+    let r = next(seed);
+    let high = (r >> 32) as usize;
+    high % n
+}
+
+// A number from least to most.
+pub fn between(seed: &mut u64, least: usize, most: usize) -> usize {
+    if most < least {
+        return least;
+    }
+    std::num::wrapping_add_usize(
+        least,
+        below(seed, std::num::wrapping_add_usize(most - least, 1)),
+    )
+}
+
+// The node that so many steps up from x lead to, or the root.
+fn climbed(tree: &table::Table, x: usize, steps: usize) -> usize {
+    let mut z = x;
+    let mut i = 0;
+    while i < steps {
+        if z == 0 {
+            return 0;
+        }
+        z = table::at(table::numbers(tree), std::num::wrapping_add_usize(z, z));
+        i += 1;
+    }
+    z
+}
+
+// One of a few tags, or of all but the reserved ones the highest.
+fn tag(seed: &mut u64) -> usize {
+    let t = below(seed, 12);
+    if t == 11 {
+        return 65533;
+    }
+    t % 3
+}
+
+// Node x hangs from the node before it or, at most so many steps up, from an ancestor of that node.
+fn put_node(seed: &mut u64, tree: &mut table::Table, x: usize, steps: usize) {
+    let mut parent = 65535;
+    if 0 < x {
+        parent = climbed(tree, x - 1, below(seed, steps));
+    }
+    let at = std::num::wrapping_add_usize(x, x);
+    table::put(tree, at, parent);
+    table::put(tree, std::num::wrapping_add_usize(at, 1), tag(seed));
+}
+
+// A tree of n nodes.
+fn make_tree(seed: &mut u64, tree: &mut table::Table, n: usize) {
+    table::set_length(tree, std::num::wrapping_add_usize(n, n));
+    let steps = between(seed, 1, 6);
+    let mut x = 0;
+    while x < n {
+        put_node(seed, tree, x, steps);
+        x += 1;
+    }
+}
+
+// A node below n for each variable, of which there are at most three.
+pub fn make_nodes(seed: &mut u64, nodes: &mut table::Table, columns: usize, n: usize) {
+    table::set_length(nodes, columns);
+    table::put(nodes, 0, below(seed, n));
+    table::put(nodes, 1, below(seed, n));
+    table::put(nodes, 2, below(seed, n));
+}
+
+fn put_member(seed: &mut u64, set: &mut table::Set, x: usize, share: usize) {
+    let chosen = below(seed, share) == 0;
+    table::put_byte(set, x, chosen as usize);
+}
+
+// A set of nodes below n: few, half or all of them.
+pub fn make_set(seed: &mut u64, set: &mut table::Set, n: usize) {
+    let share = between(seed, 1, 6);
+    let mut x = 0;
+    while x < n {
+        put_member(seed, set, x, share);
+        x += 1;
+    }
+}
+
+// What an entry can be as an operand: nothing, since it is one already; a path; a node expression.
+const TAKEN: u8 = 0;
+
+const PATH: u8 = 1;
+
+const EXPR: u8 = 2;
+
+// What each kind is, and has for its left and its right operand.
+const RESULT: [u8; 13] = [1, 1, 1, 1, 1, 1, 1, 1, 2, 2, 2, 2, 2];
+
+const LEFT: [u8; 13] = [0, 1, 1, 1, 1, 1, 0, 1, 1, 2, 2, 2, 0];
+
+const RIGHT: [u8; 13] = [0, 1, 1, 1, 1, 2, 0, 0, 0, 0, 2, 2, 0];
+
+fn result(kind: usize) -> u8 {
+    if kind < 13 {
+        return RESULT[kind];
+    }
+    0
+}
+
+fn left(kind: usize) -> u8 {
+    if kind < 13 {
+        return LEFT[kind];
+    }
+    0
+}
+
+fn right(kind: usize) -> u8 {
+    if kind < 13 {
+        return RIGHT[kind];
+    }
+    0
+}
+
+fn mark(free: &mut [u8; 64], e: usize, sort: u8) {
+    if e < 64 {
+        free[e] = sort;
+    }
+}
+
+fn is_free(free: &[u8; 64], e: usize, sort: u8) -> bool {
+    if e < 64 {
+        return free[e] == sort;
+    }
+    false
+}
+
+// How many entries are free for an operand of this sort.
+fn count(free: &[u8; 64], sort: u8) -> usize {
+    let mut found = 0;
+    let mut e = 0;
+    while e < 64 {
+        let more = is_free(free, e, sort) as usize;
+        found = std::num::wrapping_add_usize(found, more);
+        e += 1;
+    }
+    found
+}
+
+// The first entry from a place on, and round to it again, that is free for an operand of this sort; 64 if none is.
+fn find(free: &[u8; 64], sort: u8, start: usize) -> usize {
+    let mut i = 0;
+    while i < 64 {
+        let e = std::num::wrapping_add_usize(start, i) % 64;
+        if is_free(free, e, sort) {
+            return e;
+        }
+        i += 1;
+    }
+    64
+}
+
+// Any entry that is free for an operand of this sort is taken; 64 if none is.
+fn take(seed: &mut u64, free: &mut [u8; 64], sort: u8) -> usize {
+    let e = find(free, sort, below(seed, 64));
+    mark(free, e, TAKEN);
+    e
+}
+
+fn put_entry(query: &mut table::Table, free: &mut [u8; 64], e: usize, f: model::Entry) {
+    if e < 64 {
+        table::put(query, 4 * e, f.kind);
+        table::put(query, 4 * e + 1, f.left);
+        table::put(query, 4 * e + 2, f.right);
+        table::put(query, 4 * e + 3, f.tag);
+        table::set_length(query, 4 * e + 4);
+        mark(free, e, result(f.kind));
+    }
+}
+
+// A step along any axis, more often with the star than with a tag.
+fn step(seed: &mut u64) -> model::Entry {
+    let axis = below(seed, 13);
+    if 0 < below(seed, 4) {
+        return model::Entry {
+            kind: 0,
+            left: axis,
+            right: 0,
+            tag: 65535,
+        };
+    }
+    model::Entry {
+        kind: 0,
+        left: axis,
+        right: 0,
+        tag: tag(seed),
+    }
+}
+
+// An entry with no operands: of kind 6 or 12, if asked for and there is a variable, else a step.
+fn leaf(seed: &mut u64, kind: usize, columns: usize) -> model::Entry {
+    if kind == 0 {
+        return step(seed);
+    }
+    if columns == 0 {
+        return step(seed);
+    }
+    model::Entry {
+        kind: kind,
+        left: below(seed, columns),
+        right: 0,
+        tag: 0,
+    }
+}
+
+// An entry of this kind over any free operands; a step where there are not enough.
+fn make_entry(seed: &mut u64, free: &mut [u8; 64], kind: usize, columns: usize) -> model::Entry {
+    if left(kind) == 0 {
+        return leaf(seed, kind, columns);
+    }
+    let l = take(seed, free, left(kind));
+    if l == 64 {
+        return step(seed);
+    }
+    if right(kind) == 0 {
+        return model::Entry {
+            kind: kind,
+            left: l,
+            right: 0,
+            tag: 0,
+        };
+    }
+    let r = take(seed, free, right(kind));
+    if r == 64 {
+        mark(free, l, left(kind));
+        return step(seed);
+    }
+    model::Entry {
+        kind: kind,
+        left: l,
+        right: r,
+        tag: 0,
+    }
+}
+
+// A kind that joins two paths: more often compose or union than intersect or except, which leave less.
+fn joint(seed: &mut u64) -> usize {
+    let k = below(seed, 6);
+    if k < 4 {
+        return k % 2 + 1;
+    }
+    k - 1
+}
+
+// The kind of entry e: any of the 13 at first; then such that one path remains, and 13 once it does.
+fn choose(seed: &mut u64, free: &[u8; 64], e: usize, grown: usize) -> usize {
+    if e < grown {
+        return below(seed, 13);
+    }
+    let paths = count(free, PATH);
+    let exprs = count(free, EXPR);
+    if exprs == 0 {
+        if paths == 1 {
+            return 13;
+        }
+        return joint(seed);
+    }
+    if paths == 0 {
+        return 0;
+    }
+    if (1 < exprs) & (below(seed, 2) == 0) {
+        return between(seed, 10, 11);
+    }
+    5
+}
+
+// The entry that comes next goes to the end of the query; answers false where the query is whole.
+fn grow(
+    seed: &mut u64,
+    query: &mut table::Table,
+    free: &mut [u8; 64],
+    e: usize,
+    grown: usize,
+    columns: usize,
+) -> bool {
+    let kind = choose(seed, free, e, grown);
+    if kind == 13 {
+        return false;
+    }
+    let f = make_entry(seed, free, kind, columns);
+    put_entry(query, free, e, f);
+    true
+}
+
+// A query of at most one entry more than twice as many as are grown. Operands are taken from anywhere, so that the
+// entries come in any order that the rules admit.
+fn make_query(seed: &mut u64, query: &mut table::Table, grown: usize, columns: usize) {
+    let mut free = [TAKEN; 64];
+    let mut e = 0;
+    while e < 64 {
+        if !grow(seed, query, &mut free, e, grown, columns) {
+            return;
+        }
+        e += 1;
+    }
+}
+
+// The third part of a line says how many variables a query may use, LEAST MOST; they are 0 to 3 where it says nothing.
+fn columns(seed: &mut u64, line: &line::Line) -> usize {
+    if line::length(line, 2) == 0 {
+        return below(seed, 4);
+    }
+    between(seed, line::number(line, 2, 0), line::number(line, 2, 1))
+}
+
+// Makes the tree and the query that a line asks for, LEAST MOST ENTRIES, and answers how many variables the query may use.
+pub fn make_both(
+    seed: &mut u64,
+    line: &line::Line,
+    tree: &mut table::Table,
+    query: &mut table::Table,
+) -> usize {
+    let n = between(seed, line::number(line, 1, 0), line::number(line, 1, 1));
+    let grown = between(seed, 1, line::number(line, 1, 2));
+    let variables = columns(seed, line);
+    make_tree(seed, tree, n);
+    make_query(seed, query, grown, variables);
+    variables
+}
