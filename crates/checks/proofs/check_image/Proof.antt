@@ -10,14 +10,14 @@ check-tables-requires c κs = search needs
 
 returns : tie.Need-returns
 unfolding imageChecks
-returns c = search (stop-all, pass-all, tables-numbered, set-numbered, needs)
+returns c = search (stop-all, pass-all, needs)
 
 check-set-requires : tie.Need-check-set-requires
 check-set-requires c κs = search (tables-fit, needs)
 
 returns-2 : tie.Need-returns-2
 unfolding imageChecks
-returns-2 c = search (stop-all, pass-all, tables-numbered, set-numbered, needs)
+returns-2 c = search (stop-all, pass-all, tables-numbered, needs)
 
 check-room-requires : tie.Need-check-room-requires
 check-room-requires c κs = search needs

@@ -10,7 +10,7 @@ check-tables-requires c κs = search needs
 
 returns : tie.Need-returns
 unfolding pairsChecks
-returns c = search (room-of, stop-all, pass-all, tables-numbered, needs)
+returns c = search (stop-all, pass-all, needs)
 
 square-requires : tie.Need-square-requires
 square-requires c κs = search (tables-fit, needs)

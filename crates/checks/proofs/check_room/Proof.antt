@@ -9,7 +9,7 @@ reply-at-requires c κs = search needs
 
 returns : tie.Need-returns
 unfolding roomChecks
-returns c = search (accept, stop, pass, needs)
+returns c = search (stop, pass, needs)
 
 reply-at-requires-2 : tie.Need-reply-at-requires-2
 reply-at-requires-2 c κs = search needs

@@ -12,14 +12,14 @@ check-tree-requires c κs = search needs
 
 returns : tie.Need-returns
 unfolding tableChecks
-returns c = search (stop-all, pass-all, tree-numbered, query-numbered, needs)
+returns c = search (stop-all, pass-all, needs)
 
 check-query-requires : tie.Need-check-query-requires
 check-query-requires c κs = search needs
 
 returns-2 : tie.Need-returns-2
 unfolding tableChecks
-returns-2 c = search (stop-all, pass-all, tree-numbered, query-numbered, needs)
+returns-2 c = search (stop-all, pass-all, tree-numbered, needs)
 
 check-nodes-requires : tie.Need-check-nodes-requires
 check-nodes-requires c κs = omega (arith, columns-few _ _ _ _ (c .before .before .check-query .ensures) (c .if2 .left))
