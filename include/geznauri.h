@@ -227,7 +227,8 @@ gz_reply gz_check_query(const uint16_t *query, size_t query_len, uint16_t column
    that nodes_len is columns (NULL and 0 for a query without variables). from_len is n; to_len is n or more. Refusals 5 to 20.
    Accepted, the first n bytes of `to` are the image, and all later bytes are as they were; refused, all of `to` is.
    A query without intersect and except takes time in proportion to its entries times n, however it nests; intersect and
-   except evaluate their operands once for each start node. */
+   except evaluate their operands once for each start node; where one stands inside an operand of another, behind a
+   composition or in a filter, each such level takes up to n times as long. */
 gz_reply gz_forwards(const uint16_t *tree, size_t tree_len, const uint16_t *query, size_t query_len, uint16_t columns,
                      const uint16_t *nodes, size_t nodes_len, const uint8_t *from, size_t from_len, uint8_t *to, size_t to_len);
 

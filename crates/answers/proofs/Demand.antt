@@ -26,7 +26,7 @@ use Rattle.answers.proofs.Paging.{rows-back, wide-part, after-page, som
 
 -- a call as the contract of `page` says that it goes
 abbrev went : Lent → Cursor → List ℕ → Outcome → Call
-went l c room o = record { lent = l; lentBuffer = room; reply = replyOf o; cursor = o .cursor; buffer = o .buffer }
+went l c buffer o = record { lent = l; lentBuffer = buffer; reply = replyOf o; cursor = o .cursor; buffer = o .buffer }
 
 -- what one call gave, where the answers from m on were those after the cursor
 record Step (l : Lent) (m : ℕ) (g : Call) : Type 0 where
@@ -37,12 +37,12 @@ record Step (l : Lent) (m : ℕ) (g : Call) : Type 0 where
   refused : accepted g ≡ false → (g .reply .count ≡ 0) × (g .reply .more ≡ false)
 
 -- an accepted call
-step-accepted : (c : Cursor) (m : ℕ) (l : Lent) (room : List ℕ) → l .columns ≤ 3 → after (l .columns) (answersOf l) c ≡ drop m (answersOf l)
-    → Step l m (went l c room (paged (l .columns) (answersOf l) c room))
-step-accepted c m l room small h =
+step-accepted : (c : Cursor) (m : ℕ) (l : Lent) (buffer : List ℕ) → l .columns ≤ 3 → after (l .columns) (answersOf l) c ≡ drop m (answersOf l)
+    → Step l m (went l c buffer (paged (l .columns) (answersOf l) c buffer))
+step-accepted c m l buffer small h =
     record {
       wrote =
-          rows-back k (take r (after k L c)) (drop (length (flat (take r (after k L c)))) room)
+          rows-back k (take r (after k L c)) (drop (length (flat (take r (after k L c)))) buffer)
           (subst (λ (z : List Row). Wide k (take r z)) (sym h) (wide-part k L rising wide small m r))
           ∙ ap (λ (z : List Row). take r z) h;
       count = rw (h, length-take r (drop m L), length-drop m L);
@@ -64,12 +64,12 @@ step-accepted c m l room small h =
     wide = answers-wide (l .tree) (l .query) (l .columns)
 
     r : ℕ
-    r = length room / l .columns
+    r = length buffer / l .columns
 
 -- a refused call, whatever it is lent
-step-refused : (l : Lent) (c : Cursor) (m : ℕ) (l₁ : Lent) (room : List ℕ) (v : Reply) → after (l .columns) (answersOf l) c ≡ drop m (answersOf l)
-    → eqb (v .number) 0 ≡ false → Step l m (went l₁ c room (unpaged v c room))
-step-refused l c m l₁ room v h t =
+step-refused : (l : Lent) (c : Cursor) (m : ℕ) (l₁ : Lent) (buffer : List ℕ) (v : Reply) → after (l .columns) (answersOf l) c ≡ drop m (answersOf l)
+    → eqb (v .number) 0 ≡ false → Step l m (went l₁ c buffer (unpaged v c buffer))
+step-refused l c m l₁ buffer v h t =
     record {
       wrote = rw t;
       count = rw t (omega arith);
@@ -78,22 +78,22 @@ step-refused l c m l₁ room v h t =
       refused = λ _. (refl, refl);
     }
 
--- any call, at what it owes
-step-owed : (l : Lent) (c : Cursor) (m : ℕ) (l₁ : Lent) (room : List ℕ) → after (l .columns) (answersOf l) c ≡ drop m (answersOf l)
-    → (eqb (pageOutcome (l₁ .tree) (l₁ .query) (l₁ .columns) c room .number) 0 ≡ true → l₁ ≡ l)
-    → Step l m (went l₁ c room (pageOutcome (l₁ .tree) (l₁ .query) (l₁ .columns) c room))
+-- any call that goes as its contract says
+step-owed : (l : Lent) (c : Cursor) (m : ℕ) (l₁ : Lent) (buffer : List ℕ) → after (l .columns) (answersOf l) c ≡ drop m (answersOf l)
+    → (eqb (pageOutcome (l₁ .tree) (l₁ .query) (l₁ .columns) c buffer .number) 0 ≡ true → l₁ ≡ l)
+    → Step l m (went l₁ c buffer (pageOutcome (l₁ .tree) (l₁ .query) (l₁ .columns) c buffer))
 unfolding pageOutcome
-step-owed l c m l₁ room h alike = go (seen (eqb (v .number) 0))
+step-owed l c m l₁ buffer h alike = go (seen (eqb (v .number) 0))
   where
     v : Reply
-    v = verdict (pageChecks (l₁ .tree) (l₁ .query) (l₁ .columns) c (length room))
+    v = verdict (pageChecks (l₁ .tree) (l₁ .query) (l₁ .columns) c (length buffer))
 
-    go : Seen (eqb (v .number) 0) → Step l m (went l₁ c room (pageOutcome (l₁ .tree) (l₁ .query) (l₁ .columns) c room))
+    go : Seen (eqb (v .number) 0) → Step l m (went l₁ c buffer (pageOutcome (l₁ .tree) (l₁ .query) (l₁ .columns) c buffer))
     go (yes! t) =
         rw t
-        (subst (λ (z : Lent). after (z .columns) (answersOf z) c ≡ drop m (answersOf z) → Step z m (went l₁ c room (paged (l₁ .columns) (answersOf l₁) c room)))
-        (alike (rw t refl)) (step-accepted c m l₁ room (page-few (l₁ .tree) (l₁ .query) (l₁ .columns) c (length room) v refl (eqb-true (v .number) 0 t))) h)
-    go (no! t) = rw t (step-refused l c m l₁ room v h t)
+        (subst (λ (z : Lent). after (z .columns) (answersOf z) c ≡ drop m (answersOf z) → Step z m (went l₁ c buffer (paged (l₁ .columns) (answersOf l₁) c buffer)))
+        (alike (rw t refl)) (step-accepted c m l₁ buffer (page-few (l₁ .tree) (l₁ .query) (l₁ .columns) c (length buffer) v refl (eqb-true (v .number) 0 t))) h)
+    go (no! t) = rw t (step-refused l c m l₁ buffer v h t)
 
 step : (l : Lent) (c : Cursor) (m : ℕ) (g : Call) → after (l .columns) (answersOf l) c ≡ drop m (answersOf l)
     → Leaves (pageOutcome (g .lent .tree) (g .lent .query) (g .lent .columns) c (g .lentBuffer)) (g .reply) (g .cursor) (g .buffer)
@@ -146,7 +146,7 @@ module _ (l : Lent) where
       go (no h) = take-all m (answersOf l) (omega arith) ∙ sym (take-all (min (length (answersOf l)) m) (answersOf l) (omega arith))
 
   -- Of any list of page calls from a fresh cursor on, each lent whatever it is lent, refused ones included, where all
-  -- accepted ones are lent the same tree, query and number of variables: the rows rowsGiven, in the order of the calls, are
+  -- accepted ones are lent the same tree, query and number of variables: the rows written, in the order of the calls, are
   -- the first m answers, m being the smaller of the number of answers and the sum of the whole rows that the accepted
   -- calls had room for; the count of each call is what it added to m; an accepted call says that there is more exactly if
   -- m after it is below the number of answers; a refused one counts nothing and says that there is no more.

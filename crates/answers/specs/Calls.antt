@@ -76,7 +76,7 @@ pub record Tells (l : Lent) (before : List Call) (g : Call) : Type 0 where
   pub more : accepted g ≡ true → g .reply .more ≡ ltb (progress l (before ++ (g ∷ []))) (length (answersOf l))
   pub refused : accepted g ≡ false → (g .reply .count ≡ 0) × (g .reply .more ≡ false)
 
--- demand 3: the rows rowsGiven are the first m answers, and each call of the list told the truth
+-- demand 3: the rows written are the first m answers, and each call of the list told the truth
 pub record Demand3 (l : Lent) (gs : List Call) : Type 0 where
   pub rows : rowsGiven gs ≡ take (progress l gs) (answersOf l)
   pub each : (before later : List Call) (g : Call) → gs ≡ before ++ (g ∷ later) → Tells l before g

@@ -1,5 +1,5 @@
-// The services of evaluation: the nodes that a set reaches by a query, the nodes that reach a set, and the table of all
-// pairs. None has a precondition: what is malformed is refused, and then the buffer is left as it was.
+// The services of evaluation: the nodes that a set reaches by a query, the nodes that reach a set, and the relation table of
+// all pairs. None has a precondition: what is malformed is refused, and then the buffer is left as it was.
 mod write;
 
 ghost use mathlib.Core.Bool.{true, false};

@@ -178,7 +178,7 @@ module _ (file : List ℕ) where
   accepted-checks : eqb (verdict (fileChecks file) .number) 0 ≡ true → Passes (fileChecks file)
   accepted-checks e = checks file (verdict (fileChecks file)) refl (eqb-true (verdict (fileChecks file) .number) 0 e)
 
-  -- a part lies in the file, and has no more numbers than the bytes before the trailer
+  -- a part lies in the file, and has at most the 2,042 numbers that fit before the trailer
   abbrev Within : Span → Type 0
   Within s = (endOf s ≤ length file) × (s .count ≤ 2042)
 

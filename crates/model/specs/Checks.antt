@@ -69,7 +69,8 @@ hasRight k = rightPath k || rightExpr k
 abbrev pub badQueryLength : ℕ → Bool
 badQueryLength l = eqb l 0 || (not (eqb (l % 4) 0) || ltb 256 l)
 
--- 9: the number of variables is above 3, or below the least that the service takes: 1 for answers, else 0
+-- 9: the number of variables (document 01: the column count) is above 3, or below the least that the service takes: 1 for
+-- answers, else 0
 abbrev pub badVariableCount : ℕ → ℕ → Bool
 badVariableCount least columns = ltb columns least || ltb 3 columns
 

@@ -44,7 +44,8 @@ ofPath p = record { path = p; expr = is 0 }
 abbrev pub ofExpr : NodeExpr → Parsed
 ofExpr e = record { path = variable 0; expr = e }
 
--- an entry of kind k, from its fields and its operands a (left) and b (right), by the kinds 0 to 12
+-- an entry of kind k, from its fields and its operands a (left) and b (right), by the kinds 0 to 12; what stands for a higher
+-- kind is of no account, since refusal 10 turns it away
 unfoldable pub parse : ℕ → ℕ → ℕ → Parsed → Parsed → Parsed
 parse k l name a b =
     getD
@@ -65,7 +66,8 @@ parse k l name a b =
     k
     (ofExpr (is 0))
 
--- entry e, where es are the entries before it
+-- entry e, where es are the entries before it; what stands for an operand that is none of them is of no account, since refusal 12
+-- turns it away
 unfoldable pub parseOver : List ℕ → ℕ → List Parsed → Parsed
 parseOver q e es =
     parse (kind q e) (left q e) (tag q e) (getD es (left q e) (ofExpr (is 0))) (getD es (right q e) (ofExpr (is 0)))

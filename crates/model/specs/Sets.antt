@@ -2,9 +2,11 @@
 --
 -- How to read these files. `f : A → B → C` says that f takes an A and a B to a C; the lines below it define it, case by case.
 -- `pub`, `abbrev` and `unfoldable` only tell the prover who may use a name and how. `suc n` is n + 1. `[]` is the empty list,
--- `x ∷ xs` is xs with x in front, and `++` joins lists. `ltb x y` and `eqb x y` are the tests x < y and x = y; `&&`, `||` and
--- `not` join tests; `cond b x y` is x if b, else y. `getD l i d` is element i of l, or d past its end. `λ x. e` takes x to e.
--- `t .size` is a field of t.
+-- `x ∷ xs` is xs with x in front, and `++` joins lists; `length l` is the number of elements, `take k l` the first k of them and
+-- `drop k l` the rest; `getD l i d` is element i of l, or d past its end. `ltb x y`, `leb x y` and `eqb x y` are the tests x < y,
+-- x ≤ y and x = y; `&&`, `||` and `not` join tests; `cond b x y` is x if b, else y. `λ x. e` takes x to e. `record { a = x; .. }`
+-- makes a record, and `t .size` is a field of t. Where a type is a statement, `x ≡ y` says that the two are equal,
+-- `(x : A) → P` that P holds for every x, and `P × Q` that both hold.
 use Prim.Native.Nat.{ℕ, zero, suc}
 use mathlib.Core.Bool.{Bool, true, false, not, _&&_, _||_}
 use mathlib.Core.List.{List, [], _∷_}

@@ -13,7 +13,7 @@ mutual
     except : Path → Path → Path
     -- 5: a path, and what must hold at its end
     filter : Path → NodeExpr → Path
-    -- 6: a variable by its number
+    -- 6: a variable by its number (document 01: column)
     variable : ℕ → Path
     -- 7: a path, taken from node 0
     fromRoot : Path → Path

@@ -130,7 +130,7 @@ inside house site tag = go (seen (eqb (verdict (nameChecks house site tag) .numb
         tag)
     go (no! e) = rw e (omega arith)
 
--- the reply of an answered request
+-- the reply of a decided request
 
 module _ (house site : List ℕ) (tag : ℕ) (l : Lookup) (r : Reply) where
   pub is-accepted : (p : Part) → Decided house site tag l → l ≡ Named p → r ≡ reply 0 0 → r ≡ verdict (nameChecks house site tag)

@@ -161,7 +161,7 @@ pub fn due_page(
 }
 
 // x where there is such a variable, else y.
-fn pick(there: bool, x: u16, y: u16) -> u16 {
+fn choose(there: bool, x: u16, y: u16) -> u16 {
     if there {
         return x;
     }
@@ -173,8 +173,8 @@ pub fn cursor_at(s: Space, cursor: model::Cursor, row: usize) -> model::Cursor {
     model::Cursor {
         begun: true,
         first: table::narrow(node(s, row, 0)),
-        second: pick(1 < s.columns, table::narrow(node(s, row, 1)), cursor.second),
-        third: pick(2 < s.columns, table::narrow(node(s, row, 2)), cursor.third),
+        second: choose(1 < s.columns, table::narrow(node(s, row, 1)), cursor.second),
+        third: choose(2 < s.columns, table::narrow(node(s, row, 2)), cursor.third),
     }
 }
 

@@ -1,4 +1,4 @@
-// Trees and queries from a seed. Each is accepted by the way it is made.
+// Trees, queries, assignments and node sets from a seed. Each is accepted by the way it is made.
 use harness::line;
 use harness::table;
 

@@ -1,5 +1,5 @@
 // Everything that a terminal calls, under C names: include/geznauri.h describes it. Each function is a thin form of one
-// service, and its contract is that service's.
+// service, and its contract is that service's; gz_name is the name and the reply of one request in one.
 ghost use mathlib.Core.Path.{_≡_};
 ghost use mathlib.Core.Bool.{true, false};
 ghost use Rattle.model.specs.Refusals.{verdict};

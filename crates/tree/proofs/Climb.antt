@@ -1,4 +1,4 @@
--- Laws of the climb from y towards the root, which stops at the first node z that is not above x.
+-- Laws of the climb from y towards the root, which stops at the first node z whose number is not above x.
 use Prim.Native.Nat.{ℕ, _≤_, _<_}
 use native.Mathlib.Nat.{not-suc-le-zero}
 use native.Mathlib.Omega.{arith}

@@ -12,7 +12,7 @@ ghost use Rattle.tree.specs.Checks.{nodeFails};
 ghost use Rattle.tree.specs.Links.{PreviousSiblings};
 
 // Refusal 5: whether a table of l numbers has a bad length.
-fn is_bad_length(l: usize) -> bool
+fn is_bad_tree_length(l: usize) -> bool
     ensures { λ r. ⌜ r ≡ badTreeLength l ⌝ }
 {
     (l == 0) | ((l % 2 != 0) | (512 < l))
@@ -27,7 +27,7 @@ fn parent(tree: &[u16], x: usize) -> usize
 }
 
 // Whether y is x or a descendant of x. Up to y every parent comes before its node, so the climb from y stops at the first
-// node that is not above x. It takes a turn for each node that it leaves behind.
+// node whose number is not above x. It takes a turn for each node that it leaves behind.
 fn is_descendant_or_self(tree: &[u16], x: usize, y: usize) -> bool
     requires { ⌜ Falling (treeOf (now tree)) y × (y < sizeOf (now tree)) ⌝ }
     ensures { λ r. ⌜ r ≡ descendantOrSelf (treeOf (now (tree .entry))) x y ⌝ }
@@ -91,7 +91,7 @@ fn lowest_bad(tree: &[u16], k: usize) -> usize
 pub fn check_tree(tree: &[u16]) -> model::Reply
     ensures { λ r. ⌜ r ≡ verdict (treeChecks (now (tree .entry))) ⌝ }
 {
-    if is_bad_length(tree.len()) {
+    if is_bad_tree_length(tree.len()) {
         return model::reply_at(5, 0);
     }
     let n = tree.len() / 2;

@@ -6,8 +6,8 @@ use borrow.Author.Needs.{needs}
 use Rattle.tree.proofs.check_tree.Statement.{statement}
 use Rattle.tree.proofs.check_tree.Tie as tie
 
-is-bad-length-requires : tie.Need-is-bad-length-requires
-is-bad-length-requires c κs = search needs
+is-bad-tree-length-requires : tie.Need-is-bad-tree-length-requires
+is-bad-tree-length-requires c κs = search needs
 
 reply-at-requires : tie.Need-reply-at-requires
 reply-at-requires c κs = search needs
@@ -47,7 +47,7 @@ pub check-tree-spec : {M : Type 1} → statement M
 check-tree-spec =
     tie.close
     (tie.spec
-    is-bad-length-requires
+    is-bad-tree-length-requires
     reply-at-requires
     returns
     lowest-bad-requires
