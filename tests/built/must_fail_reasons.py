@@ -1,6 +1,7 @@
 #!/usr/bin/env python3
 """rt ci tried every must-fail edit, and refused each because a fact fails. Where the prover first complains that a proof no
-longer fits the code, the edit only changed the code's shape, and shows nothing."""
+longer fits the code, the edit only changed the code's shape, and shows nothing; where it first complains that a fact rests on
+another that failed, the edited function has no proof file of its own, in which it would say what fails."""
 import glob, os, re, sys
 sys.dont_write_bytecode = True
 sys.path.insert(0, os.path.join(os.path.dirname(__file__), "..", "support"))
@@ -8,7 +9,7 @@ from repository import ROOT, end, read
 
 # an error, or a note that has a place: the latter comes first for a function that is proved with no file
 COMPLAINT = re.compile(r"^(?:\S+: error: |note: \S+:\d+:\d+: )(.*)", re.M)
-UNFIT = re.compile(r"that can be named from here|expected type `tie\.Need-|has no field")
+UNFIT = re.compile(r"that can be named from here|expected type `tie\.Need-|has no field|was not admitted")
 
 problems = []
 for edit in sorted(glob.glob(os.path.join(ROOT, "crates", "*", "must-fail", "*.edit"))):
@@ -21,5 +22,5 @@ for edit in sorted(glob.glob(os.path.join(ROOT, "crates", "*", "must-fail", "*.e
     if not first:
         problems.append("%s/%s: %s has no complaint" % (crate, label, log))
     elif UNFIT.search(first[1]):
-        problems.append("%s/%s: the proof no longer fits the code: %s" % (crate, label, first[1][:300]))
+        problems.append("%s/%s: no fact of the edited code is what first fails: %s" % (crate, label, first[1][:300]))
 end(problems)

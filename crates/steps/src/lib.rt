@@ -165,34 +165,8 @@ fn named(tree: &[u16], name: usize) -> [u8; 256]
     r
 }
 
-// The image under a step whose name test is looked at, or under the step's converse: forwards the test cuts the image,
-// backwards the set.
-fn named_step(
-    tree: &[u16],
-    prev: &[u16],
-    a: usize,
-    name: usize,
-    back: bool,
-    from: [u8; 256],
-) -> [u8; 256]
-    requires { ⌜ Linked (now tree) (now prev) × (a ≤ 12) ⌝ }
-    ensures { λ r.
-        ⌜
-        r
-        ≡ tab 256 (image (sizeOf (now (tree .entry))) (turn back (steps (treeOf (now (tree .entry))) a name)) (memb from))
-        ⌝ }
-{
-    let s = named(tree, name);
-    if back {
-        let m = sets::combined(sets::INTERSECTION, from, s);
-        return axis_image(tree, prev, a, true, m);
-    }
-    let m = axis_image(tree, prev, a, false, from);
-    sets::combined(sets::INTERSECTION, m, s)
-}
-
-// The image under a step, by the code of its axis and its name test, or under the step's converse. The star passes every
-// node, so that nothing is cut.
+// The image under a step, by the code of its axis and its name test, or under the step's converse: forwards the test cuts the
+// image, backwards the set. The star passes every node, so that nothing is cut.
 pub fn step(
     tree: &[u16],
     prev: &[u16],
@@ -211,5 +185,11 @@ pub fn step(
     if name == 65535 {
         return axis_image(tree, prev, a, back, from);
     }
-    named_step(tree, prev, a, name, back, from)
+    let s = named(tree, name);
+    if back {
+        let m = sets::combined(sets::INTERSECTION, from, s);
+        return axis_image(tree, prev, a, true, m);
+    }
+    let m = axis_image(tree, prev, a, false, from);
+    sets::combined(sets::INTERSECTION, m, s)
 }

@@ -1,5 +1,5 @@
-use Rattle.steps.proofs.Images.{step-star}
 use borrow.Author.Needs.{needs}
+use Rattle.steps.proofs.Images.{step-star, step-on, step-back}
 use Rattle.steps.proofs.step.Statement.{statement}
 use Rattle.steps.proofs.step.Tie as tie
 
@@ -9,11 +9,37 @@ axis-image-requires c κs = search needs
 returns : tie.Need-returns
 returns c = search (step-star, needs)
 
-named-step-requires : tie.Need-named-step-requires
-named-step-requires c κs = search needs
+named-requires : tie.Need-named-requires
+named-requires c κs = search needs
+
+combined-requires : tie.Need-combined-requires
+combined-requires c κs = search needs
+
+axis-image-requires-2 : tie.Need-axis-image-requires-2
+axis-image-requires-2 c κs = search needs
 
 returns-2 : tie.Need-returns-2
-returns-2 c = search needs
+returns-2 c = rw (c .before .before .if2 .taken) (search (step-back, needs))
+
+axis-image-requires-3 : tie.Need-axis-image-requires-3
+axis-image-requires-3 c κs = search needs
+
+combined-requires-2 : tie.Need-combined-requires-2
+combined-requires-2 c κs = search needs
+
+returns-3 : tie.Need-returns-3
+returns-3 c = rw (c .before .before .if2 .left) (search (step-on, needs))
 
 pub step-spec : {M : Type 1} → statement M
-step-spec = tie.close (tie.spec axis-image-requires returns named-step-requires returns-2)
+step-spec =
+    tie.close
+    (tie.spec
+    axis-image-requires
+    returns
+    named-requires
+    combined-requires
+    axis-image-requires-2
+    returns-2
+    axis-image-requires-3
+    combined-requires-2
+    returns-3)
