@@ -32,7 +32,7 @@ numbers-more f at (suc n) = ap (λ (l : List ℕ). numberAt f at ∷ l) (numbers
     over : (a n : ℕ) → a + 2 + 2 * n ≡ a + 2 * suc n
     over a n = omega arith
 
-length-numbers : (f : List ℕ) (at n : ℕ) → length (numbers f at n) ≡ n
+pub length-numbers : (f : List ℕ) (at n : ℕ) → length (numbers f at n) ≡ n
 unfolding numbers
 length-numbers f at zero = refl
 length-numbers f at (suc n) = ap suc (length-numbers f (at + 2) n)
