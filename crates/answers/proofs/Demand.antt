@@ -1,6 +1,6 @@
 -- Demand 3, of any list of page calls.
-use Prim.Native.Nat.{ℕ, _+_, _-_, _/_, _≤_, min}
-use native.Mathlib.Nat.{add-zero, zero-add, add-assoc}
+use Prim.Native.Nat.{ℕ, _+_, _-_, _*_, _/_, _≤_, min}
+use native.Mathlib.Nat.{add-zero, add-assoc}
 use native.Mathlib.Decide.{decLe}
 use native.Mathlib.Omega.{arith}
 use mathlib.Core.Path.{_≡_, refl, sym, ap, ap₂, _∙_, subst}
@@ -8,43 +8,127 @@ use mathlib.Core.Bool.{true, false}
 use mathlib.Core.List.{List, [], _∷_, _++_}
 use lib.Dec.{ltb, eqb}
 use lib.ListN.{length, take, drop, length-take, length-drop}
-use lib.Seq.{take-all, take-add, drop-drop}
-use borrow.Author.Tests.{eqb-true}
+use lib.Seq.{take-all, take-add, drop-at, drop-drop}
+use borrow.Author.Tests.{eqb-true, ltb-true, lt-ltb}
 use Rattle.model.specs.declared.Cursor.{Cursor}
 use Rattle.model.specs.declared.Reply.{Reply}
 use Rattle.model.specs.declared.PageReply.{PageReply}
 use Rattle.model.specs.Answers.{Row}
-use Rattle.model.specs.Pages.{Outcome, hasBegun, after, flat, paged, unpaged}
+use Rattle.model.specs.Pages.{Outcome, after, moved, flat, fitting, paged, unpaged}
 use Rattle.model.specs.Refusals.{verdict}
 use Rattle.model.specs.Checks.{pageChecks}
-use Rattle.model.proofs.Booleans.{Seen, yes!, no!, seen, no-yes}
+use Rattle.model.proofs.Booleans.{Seen, yes!, no!, seen, no-yes, bool-ext}
 use Rattle.model.proofs.Answers.{Wide, Rising, answers-rising, answers-wide}
-use Rattle.model.specs.Services.{pageOutcome, pageReply, PageLeaves}
-use Rattle.answers.specs.Calls.{Lent, Call, Chain, accepted, Alike, rowsIn, rowsGiven, roomOf, rooms, answersOf, Tells, Demand3}
+use Rattle.model.specs.Services.{pageOutcome, pageReply}
+use Rattle.answers.specs.Calls.{Lent, Call, Meets, Chain, lentTo, OneChain, accepted, Alike, rowsIn, rowsGiven, roomOf, rooms, answersOf, answersAfter, cursorAfter, Page, NoPage, Tells, Paging, Demand3}
 use Rattle.answers.proofs.Accepted.{page-few}
-use Rattle.answers.proofs.Paging.{rows-back, wide-part, after-page, some-after}
+use Rattle.answers.proofs.Paging.{in-take, in-after, rows-back, after-page, after-part, some-rest, some-after}
+use Rattle.answers.proofs.Writing.{flat-long}
 
--- a call as the contract of `page` says that it goes
+-- One call.
+
+-- a call with this outcome
 abbrev went : Lent → Cursor → List ℕ → Outcome → Call
 went l c buffer o = record { lent = l; lentBuffer = buffer; reply = pageReply o; cursor = o .cursor; buffer = o .buffer }
 
+-- the outcome that the contract of `page` says
+abbrev outcome : Lent → Cursor → List ℕ → Outcome
+outcome l c buffer = pageOutcome (l .tree) (l .query) (l .columns) c buffer
+
+-- what a call leaves is settled by what it is lent
+settled : (c : Cursor) (g : Call) → Meets c g → g ≡ went (g .lent) c (g .lentBuffer) (outcome (g .lent) c (g .lentBuffer))
+settled c g d = λ i. record { lent = g .lent; lentBuffer = g .lentBuffer; reply = d .0 i; cursor = d .1 i; buffer = d .2 i }
+
+-- what holds of an accepted call and of a refused one holds of any call
+module _ (P : Call → Type 0) where
+  by-outcome : (l : Lent) (c : Cursor) (buffer : List ℕ)
+      → (eqb (outcome l c buffer .number) 0 ≡ true → l .columns ≤ 3 → P (went l c buffer (paged (l .columns) (answersOf l) c buffer)))
+      → ((v : Reply) → eqb (v .number) 0 ≡ false → P (went l c buffer (unpaged v c buffer)))
+      → P (went l c buffer (outcome l c buffer))
+  unfolding pageOutcome
+  by-outcome l c buffer pages stops = go (seen (eqb (v .number) 0))
+    where
+      v : Reply
+      v = verdict (pageChecks (l .tree) (l .query) (l .columns) c (length buffer))
+
+      go : Seen (eqb (v .number) 0) → P (went l c buffer (outcome l c buffer))
+      go (yes! t) =
+          rw t (pages (rw t refl) (page-few (l .tree) (l .query) (l .columns) c (length buffer) v refl (eqb-true (v .number) 0 t)))
+      go (no! t) = rw t (stops v t)
+
+  by-call : (c : Cursor) (g : Call) → Meets c g
+      → (accepted g ≡ true → g .lent .columns ≤ 3
+      → P (went (g .lent) c (g .lentBuffer) (paged (g .lent .columns) (answersOf (g .lent)) c (g .lentBuffer))))
+      → ((v : Reply) → eqb (v .number) 0 ≡ false → P (went (g .lent) c (g .lentBuffer) (unpaged v c (g .lentBuffer))))
+      → P g
+  by-call c g d pages stops =
+      subst P (sym (settled c g d))
+      (by-outcome (g .lent) c (g .lentBuffer) (λ t. pages (ap (λ (z : PageReply). eqb (z .number) 0) (d .0) ∙ t)) stops)
+
+-- the page that is due
+
+take-min : (xs : List Row) (m : ℕ) → take m xs ≡ take (min (length xs) m) xs
+take-min xs m = go (decLe m (length xs))
+  where
+    go : Dec (m ≤ length xs) → take m xs ≡ take (min (length xs) m) xs
+    go (yes h) = let e : min (length xs) m ≡ m = omega arith in rw e
+    go (no h) = take-all m xs (omega arith) ∙ sym (take-all (min (length xs) m) xs (omega arith))
+
+page-due : (l : Lent) (c : Cursor) (buffer : List ℕ) → Page c (went l c buffer (paged (l .columns) (answersOf l) c buffer))
+page-due l c buffer =
+    record {
+      count = long;
+      rows = back ∙ take-min (answersAfter l c) r;
+      beyond = rw (← used) (drop-at (flat P) (drop (length (flat P)) buffer) (length (flat P)) refl);
+      more = some-rest (answersAfter l c) r;
+      cursor = ap (moved c) (sym back);
+    }
+  where
+    k : ℕ
+    k = l .columns
+
+    r : ℕ
+    r = length buffer / k
+
+    P : List Row
+    P = fitting k (answersOf l) c buffer
+
+    wide : Wide k P
+    wide s i = answers-wide (l .tree) (l .query) k s (in-after s (answersOf l) k c (in-take r s (answersAfter l c) i))
+
+    long : length P ≡ min (length (answersAfter l c)) r
+    long = omega (arith, length-take r (answersAfter l c))
+
+    used : length (flat P) ≡ min (length (answersAfter l c)) r * k
+    used = flat-long k P wide ∙ ap (λ (z : ℕ). z * k) long
+
+    back : rowsIn k (length P) (flat P ++ drop (length (flat P)) buffer) ≡ P
+    back = rows-back k P (drop (length (flat P)) buffer) wide
+
+page : (c : Cursor) (g : Call) → Meets c g → accepted g ≡ true → Page c g
+page c g d = by-call (λ z. accepted z ≡ true → Page c z) c g d (λ t few _. page-due (g .lent) c (g .lentBuffer)) (λ v t e. no-yes t e)
+
+no-page : (c : Cursor) (g : Call) → Meets c g → accepted g ≡ false → NoPage c g
+no-page c g d =
+    by-call (λ z. accepted z ≡ false → NoPage c z) c g d (λ t few e. no-yes e refl)
+    (λ v t _. record { count = refl; more = refl; cursor = refl; buffer = refl })
+
+-- Calls that page through the same answers.
+
 -- what one call gave, where the answers from m on were those after the cursor
-record Step (l : Lent) (m : ℕ) (g : Call) : Type 0 where
-  wrote : rowsIn (g .lent .columns) (g .reply .count) (g .buffer) ≡ take (roomOf g) (drop m (answersOf l))
-  count : g .reply .count ≡ min (roomOf g) (length (answersOf l) - m)
-  next : after (l .columns) (answersOf l) (g .cursor) ≡ drop (m + roomOf g) (answersOf l)
-  more : accepted g ≡ true → g .reply .more ≡ ltb (min (length (answersOf l)) (m + roomOf g)) (length (answersOf l))
-  refused : accepted g ≡ false → (g .reply .count ≡ 0) × (g .reply .more ≡ false)
+pub record Step (l : Lent) (m : ℕ) (g : Call) : Type 0 where
+  pub wrote : rowsIn (g .lent .columns) (g .reply .count) (g .buffer) ≡ take (roomOf g) (drop m (answersOf l))
+  pub count : g .reply .count ≡ min (roomOf g) (length (answersOf l) - m)
+  pub next : after (l .columns) (answersOf l) (g .cursor) ≡ drop (m + roomOf g) (answersOf l)
+  pub more : accepted g ≡ true → g .reply .more ≡ ltb (min (length (answersOf l)) (m + roomOf g)) (length (answersOf l))
+  pub refused : accepted g ≡ false → (g .reply .count ≡ 0) × (g .reply .more ≡ false)
 
 -- an accepted call
 step-accepted : (c : Cursor) (m : ℕ) (l : Lent) (buffer : List ℕ) → l .columns ≤ 3 → after (l .columns) (answersOf l) c ≡ drop m (answersOf l)
     → Step l m (went l c buffer (paged (l .columns) (answersOf l) c buffer))
 step-accepted c m l buffer small h =
     record {
-      wrote =
-          rows-back k (take r (after k L c)) (drop (length (flat (take r (after k L c)))) buffer)
-          (subst (λ (z : List Row). Wide k (take r z)) (sym h) (wide-part k L rising wide small m r))
-          ∙ ap (λ (z : List Row). take r z) h;
+      wrote = page-due l c buffer .rows ∙ sym (take-min (after k L c) r) ∙ ap (λ (z : List Row). take r z) h;
       count = rw (h, length-take r (drop m L), length-drop m L);
       next = after-page k L rising wide small c m r h;
       more = λ _. rw h (some-after k L rising wide small m r);
@@ -78,30 +162,16 @@ step-refused l c m l₁ buffer v h t =
       refused = λ _. (refl, refl);
     }
 
--- any call that goes as its contract says
-step-owed : (l : Lent) (c : Cursor) (m : ℕ) (l₁ : Lent) (buffer : List ℕ) → after (l .columns) (answersOf l) c ≡ drop m (answersOf l)
-    → (eqb (pageOutcome (l₁ .tree) (l₁ .query) (l₁ .columns) c buffer .number) 0 ≡ true → l₁ ≡ l)
-    → Step l m (went l₁ c buffer (pageOutcome (l₁ .tree) (l₁ .query) (l₁ .columns) c buffer))
-unfolding pageOutcome
-step-owed l c m l₁ buffer h alike = go (seen (eqb (v .number) 0))
-  where
-    v : Reply
-    v = verdict (pageChecks (l₁ .tree) (l₁ .query) (l₁ .columns) c (length buffer))
-
-    go : Seen (eqb (v .number) 0) → Step l m (went l₁ c buffer (pageOutcome (l₁ .tree) (l₁ .query) (l₁ .columns) c buffer))
-    go (yes! t) =
-        rw t
-        (subst (λ (z : Lent). after (z .columns) (answersOf z) c ≡ drop m (answersOf z) → Step z m (went l₁ c buffer (paged (l₁ .columns) (answersOf l₁) c buffer)))
-        (alike (rw t refl)) (step-accepted c m l₁ buffer (page-few (l₁ .tree) (l₁ .query) (l₁ .columns) c (length buffer) v refl (eqb-true (v .number) 0 t))) h)
-    go (no! t) = rw t (step-refused l c m l₁ buffer v h t)
-
-step : (l : Lent) (c : Cursor) (m : ℕ) (g : Call) → after (l .columns) (answersOf l) c ≡ drop m (answersOf l)
-    → PageLeaves (pageOutcome (g .lent .tree) (g .lent .query) (g .lent .columns) c (g .lentBuffer)) (g .reply) (g .cursor) (g .buffer)
+-- one call from a place on
+pub step : (l : Lent) (c : Cursor) (m : ℕ) (g : Call) → after (l .columns) (answersOf l) c ≡ drop m (answersOf l) → Meets c g
     → (accepted g ≡ true → g .lent ≡ l) → Step l m g
 step l c m g h d alike =
-    subst (λ (z : Call). Step l m z)
-    (λ i. record { lent = g .lent; lentBuffer = g .lentBuffer; reply = sym (d .0) i; cursor = sym (d .1) i; buffer = sym (d .2) i })
-    (step-owed l c m (g .lent) (g .lentBuffer) h (λ t. alike (ap (λ (z : PageReply). eqb (z .number) 0) (d .0) ∙ t)))
+    by-call (Step l m) c g d
+    (λ t few.
+    subst
+    (λ (z : Lent). answersAfter z c ≡ drop m (answersOf z) → Step z m (went (g .lent) c (g .lentBuffer) (paged (g .lent .columns) (answersOf (g .lent)) c (g .lentBuffer))))
+    (alike t) (step-accepted c m (g .lent) (g .lentBuffer) few) h)
+    (λ v t. step-refused l c m (g .lent) (g .lentBuffer) v h t)
 
 module _ (l : Lent) where
   -- the rows that a list of calls wrote, from answer m on
@@ -128,31 +198,96 @@ module _ (l : Lent) where
   rooms-one [] g = omega arith
   rooms-one (d ∷ before) g = omega (arith, rooms-one before g)
 
-  tells : (c : Cursor) → hasBegun c ≡ false → (before later : List Call) (g : Call) → Chain c (before ++ (g ∷ later)) → Alike l (before ++ (g ∷ later))
-      → Tells l before g
-  tells c fresh before later g ch al =
-      let s = rw (zero-add (rooms before)) at (step-after before later g c 0 (rw fresh) ch al) in
+  tells : (c : Cursor) (m : ℕ) → answersAfter l c ≡ drop m (answersOf l) → (before later : List Call) (g : Call) → Chain c (before ++ (g ∷ later))
+      → Alike l (before ++ (g ∷ later)) → Tells (drop m (answersOf l)) before g
+  tells c m h before later g ch al =
       record {
-        count = omega (arith, rooms-one before g, s .count);
-        more = λ a. s .more a ∙ rw (rooms-one before g);
-        refused = s .refused;
+        count = omega (arith, long, rooms-one before g, s .count);
+        more = λ a. s .more a ∙ bool-ext (ltb all there) (ltb part left)
+            (λ t. lt-ltb part left (omega (arith, long, rooms-one before g, ltb-true all there t)))
+            (λ t. lt-ltb all there (omega (arith, long, rooms-one before g, ltb-true part left t)));
       }
-
-  take-min : (m : ℕ) → take m (answersOf l) ≡ take (min (length (answersOf l)) m) (answersOf l)
-  take-min m = go (decLe m (length (answersOf l)))
     where
-      go : Dec (m ≤ length (answersOf l)) → take m (answersOf l) ≡ take (min (length (answersOf l)) m) (answersOf l)
-      go (yes h) = let e : min (length (answersOf l)) m ≡ m = omega arith in rw e
-      go (no h) = take-all m (answersOf l) (omega arith) ∙ sym (take-all (min (length (answersOf l)) m) (answersOf l) (omega arith))
+      s : Step l (m + rooms before) g
+      s = step-after before later g c m h ch al
 
-  -- Of any list of page calls from a fresh cursor on, each lent whatever it is lent, refused ones included, where all
-  -- accepted ones are lent the same tree, query and number of variables: the rows written, in the order of the calls, are
-  -- the first m answers, m being the smaller of the number of answers and the sum of the whole rows that the accepted
-  -- calls had room for; the count of each call is what it added to m; an accepted call says that there is more exactly if
-  -- m after it is below the number of answers; a refused one counts nothing and says that there is no more.
-  pub demand3 : (c : Cursor) → hasBegun c ≡ false → (gs : List Call) → Chain c gs → Alike l gs → Demand3 l gs
-  demand3 c fresh gs ch al =
-      record {
-        rows = rows-from gs c 0 (rw fresh) ch al ∙ take-min (rooms gs);
-        each = λ before later g e. tells c fresh before later g (subst (λ (z : List Call). Chain c z) e ch) (subst (λ (z : List Call). Alike l z) e al);
-      }
+      there : ℕ
+      there = length (answersOf l)
+
+      left : ℕ
+      left = length (drop m (answersOf l))
+
+      all : ℕ
+      all = min there (m + rooms before + roomOf g)
+
+      part : ℕ
+      part = min left (rooms (before ++ (g ∷ [])))
+
+      long : left ≡ there - m
+      long = length-drop m (answersOf l)
+
+  paging : (gs : List Call) (c : Cursor) → Chain c gs → Alike l gs → Paging (answersAfter l c) gs
+  paging gs c ch al =
+      let p = after-part (l .columns) (answersOf l) (answers-rising (l .tree) (l .query) (l .columns)) c in
+      subst (λ (z : List Row). Paging z gs) (sym (p .1))
+      (record {
+        written = rows-from gs c (p .0) (p .1) ch al ∙ take-min (drop (p .0) (answersOf l)) (rooms gs);
+        each = λ before later g e.
+            tells c (p .0) (p .1) before later g (subst (λ (z : List Call). Chain c z) e ch) (subst (λ (z : List Call). Alike l z) e al);
+      })
+
+-- Any list of calls.
+
+-- each call of a chain did what the contract says
+met : (before later : List Call) (g : Call) (c : Cursor) → Chain c (before ++ (g ∷ later)) → Meets (cursorAfter c before) g
+met [] later g c ch = ch .0
+met (d ∷ before) later g c ch = met before later g (d .cursor) (ch .1)
+
+met-at : (gs before later : List Call) (g : Call) (c : Cursor) → Chain c gs → gs ≡ before ++ (g ∷ later) → Meets (cursorAfter c before) g
+met-at gs before later g c ch e = met before later g c (subst (λ (z : List Call). Chain c z) e ch)
+
+-- Of any list of page calls, each lent the cursor that the one before it left and otherwise whatever it is lent: an accepted
+-- call's count is the number of rows after its cursor or, if they are fewer, the whole rows of its buffer, its rows are as many
+-- of those, it says that there is more exactly if there are others after them, and it moves the cursor to the last; a refused
+-- one leaves cursor and buffer as they were, counts nothing and says that there is no more. And where all accepted calls are
+-- lent the same tree, query and number of variables: the rows written, in the order of the calls, are the first m of the
+-- answers, if the first cursor is fresh, or of those after it, m being the smaller of their number and the sum of the whole
+-- rows that the accepted calls had room for; the count of each call is what it added to m; an accepted call says that there is
+-- more exactly if m after it is below their number.
+pub demand3 : (c : Cursor) (gs : List Call) → Chain c gs → Demand3 c gs
+demand3 c gs ch =
+    record {
+      page = λ before later g e. page (cursorAfter c before) g (met-at gs before later g c ch e);
+      refused = λ before later g e. no-page (cursorAfter c before) g (met-at gs before later g c ch e);
+      fresh = λ l al f. rw f at (paging l gs c ch al);
+      resumed = λ l al. paging l gs c ch al;
+    }
+
+-- the calls that are lent ls, from the cursor c on
+abbrev callsFrom : Cursor → List (Lent × List ℕ) → List Call
+callsFrom c [] = []
+callsFrom c (l ∷ ls) = went (l .0) c (l .1) (outcome (l .0) c (l .1)) ∷ callsFrom (outcome (l .0) c (l .1) .cursor) ls
+
+calls-lent : (c : Cursor) (ls : List (Lent × List ℕ)) → lentTo (callsFrom c ls) ≡ ls
+calls-lent c [] = refl
+calls-lent c (l ∷ ls) = ap {B = List (Lent × List ℕ)} (λ z. l ∷ z) (calls-lent (outcome (l .0) c (l .1) .cursor) ls)
+
+calls-chain : (c : Cursor) (ls : List (Lent × List ℕ)) → Chain c (callsFrom c ls)
+calls-chain c [] = tt
+calls-chain c (l ∷ ls) = ((refl, refl, refl), calls-chain (outcome (l .0) c (l .1) .cursor) ls)
+
+calls-only : (c : Cursor) (gs : List Call) → Chain c gs → gs ≡ callsFrom c (lentTo gs)
+calls-only c [] ch = refl
+calls-only c (g ∷ gs) ch =
+    ap₂ {C = List Call} (λ x y. x ∷ y) (settled c g (ch .0))
+    (calls-only (g .cursor) gs (ch .1) ∙ ap (λ (z : Cursor). callsFrom z (lentTo gs)) (ch .0 .1))
+
+-- Whatever calls are lent one after the other, from any cursor on, there is such a list of them, and only one.
+pub chain-exists : (c : Cursor) (ls : List (Lent × List ℕ)) → OneChain c ls
+chain-exists c ls =
+    record {
+      calls = callsFrom c ls;
+      lent = calls-lent c ls;
+      chain = calls-chain c ls;
+      only = λ gs e ch. calls-only c gs ch ∙ ap (callsFrom c) e;
+    }

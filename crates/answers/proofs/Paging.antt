@@ -14,7 +14,8 @@ use borrow.Author.Tests.{lt-ltb, le-ltb}
 use Rattle.model.specs.declared.Cursor.{Cursor}
 use Rattle.model.specs.Answers.{Row, keep, less}
 use Rattle.model.specs.Pages.{rowOf, hasBegun, after, atRow, moved, flat, some}
-use Rattle.model.proofs.Answers.{In, Wide, Rising, less-self, less-back, kept-in}
+use Rattle.model.proofs.Booleans.{Seen, yes!, no!, seen, no-yes}
+use Rattle.model.proofs.Answers.{In, Wide, Rising, Lexed, first, later, lexed, less-first, less-later, less-self, less-back, kept-in}
 use Rattle.answers.specs.Calls.{rowsIn}
 use Rattle.answers.proofs.Odometer.{keep-all}
 
@@ -32,6 +33,35 @@ keep-after (x ∷ xs) zero d h l = rw (less-self x) (keep-all (less x) xs (h .0)
 keep-after (x ∷ xs) (suc i) d h l =
     rw (less-back x (getD xs i d) (h .0 (getD xs i d) (in-at xs i d (le-of-suc-le-suc l))))
     (keep-after xs i d (h .1) (le-of-suc-le-suc l))
+
+-- the order of rows is transitive
+less-on : (r s t : Row) → less r s ≡ true → less s t ≡ true → less r t ≡ true
+less-on [] s t h g = h
+less-on (a ∷ r) [] t h g = no-yes refl h
+less-on (a ∷ r) (b ∷ s) [] h g = no-yes refl g
+less-on (a ∷ r) (b ∷ s) (d ∷ t) h g = go (lexed a r b s h) (lexed b s d t g) (less-on r s t)
+  where
+    go : Lexed a r b s → Lexed b s d t → (less r s ≡ true → less s t ≡ true → less r t ≡ true) → less (a ∷ r) (d ∷ t) ≡ true
+    go (first i) (first j) on = less-first a r d t (omega arith)
+    go (first i) (later e y) on = less-first a r d t (omega arith)
+    go (later e x) (first j) on = less-first a r d t (omega arith)
+    go (later e x) (later f y) on = rw (e, f) (less-later d r t ∙ on x y)
+
+-- what is above any row is the rest of the list from some place on
+keep-part : (r : Row) (xs : List Row) → Rising xs → (m : ℕ) × (keep (less r) xs ≡ drop m xs)
+keep-part r [] h = (0, refl)
+keep-part r (x ∷ xs) h = go (seen (less r x)) (keep-part r xs (h .1))
+  where
+    go : Seen (less r x) → (m : ℕ) × (keep (less r) xs ≡ drop m xs) → (m : ℕ) × (keep (less r) (x ∷ xs) ≡ drop m (x ∷ xs))
+    go (yes! t) p = (0, rw t (ap {B = List Row} (λ l. x ∷ l) (keep-all (less r) xs (λ s i. less-on r x s t (h .0 s i)))))
+    go (no! t) p = (suc (p .0), rw t (p .1))
+
+pub after-part : (k : ℕ) (xs : List Row) → Rising xs → (c : Cursor) → (m : ℕ) × (after k xs c ≡ drop m xs)
+after-part k xs h c = go (seen (hasBegun c))
+  where
+    go : Seen (hasBegun c) → (m : ℕ) × (after k xs c ≡ drop m xs)
+    go (yes! t) = rw t (keep-part (rowOf k c) xs h)
+    go (no! t) = (0, rw t refl)
 
 -- parts of a list
 
@@ -60,6 +90,14 @@ some-yes (x ∷ xs) h = refl
 pub some-not : (xs : List Row) → length xs ≤ 0 → some xs ≡ false
 some-not [] h = refl
 some-not (x ∷ xs) h = absurd (not-suc-le-zero h)
+
+-- whether rows are left after the first r
+pub some-rest : (xs : List Row) (r : ℕ) → some (drop r xs) ≡ ltb (min (length xs) r) (length xs)
+some-rest xs r = go (decLt r (length xs))
+  where
+    go : Dec (r < length xs) → some (drop r xs) ≡ ltb (min (length xs) r) (length xs)
+    go (yes h) = some-yes (drop r xs) (omega (arith, length-drop r xs)) ∙ sym (lt-ltb (min (length xs) r) (length xs) (omega arith))
+    go (no h) = some-not (drop r xs) (omega (arith, length-drop r xs)) ∙ sym (le-ltb (min (length xs) r) (length xs) (omega arith))
 
 -- rows that were written are read back
 pub rows-back : (k : ℕ) (rows : List Row) (rest : List ℕ) → Wide k rows → rowsIn k (length rows) (flat rows ++ rest) ≡ rows
@@ -90,7 +128,7 @@ moved-row k c r (s ∷ ss) h l = moved-row k (atRow c r) s ss (λ x i. h x (_⊎
 -- one page, where the rows after the cursor are those of the list from m on
 
 module _ (k : ℕ) (L : List Row) (rising : Rising L) (wide : Wide k L) (small : k ≤ 3) where
-  pub wide-part : (m r : ℕ) → Wide k (take r (drop m L))
+  wide-part : (m r : ℕ) → Wide k (take r (drop m L))
   wide-part m r x i = wide x (in-drop m x L (in-take r x (drop m L) i))
 
   past : (i : ℕ) → length L ≤ i → drop i L ≡ []
@@ -131,11 +169,4 @@ module _ (k : ℕ) (L : List Row) (rising : Rising L) (wide : Wide k L) (small :
 
   -- and says whether any are left
   pub some-after : (m r : ℕ) → some (drop r (drop m L)) ≡ ltb (min (length L) (m + r)) (length L)
-  some-after m r = go (decLt (m + r) (length L))
-    where
-      long : length (drop r (drop m L)) ≡ length L - (m + r)
-      long = ap length (drop-drop r m L) ∙ length-drop (m + r) L
-
-      go : Dec (m + r < length L) → some (drop r (drop m L)) ≡ ltb (min (length L) (m + r)) (length L)
-      go (yes h) = some-yes (drop r (drop m L)) (omega (arith, long)) ∙ sym (lt-ltb (min (length L) (m + r)) (length L) (omega arith))
-      go (no h) = some-not (drop r (drop m L)) (omega (arith, long)) ∙ sym (le-ltb (min (length L) (m + r)) (length L) (omega arith))
+  some-after m r = ap some (drop-drop r m L) ∙ some-rest L (m + r)

@@ -44,7 +44,7 @@ flat-append : (xs ys : List Row) → flat (xs ++ ys) ≡ flat xs ++ flat ys
 flat-append [] ys = refl
 flat-append (x ∷ xs) ys = rw (flat-append xs ys) (sym (append-assoc x (flat xs) (flat ys)))
 
-flat-long : (k : ℕ) (xs : List Row) → Wide k xs → length (flat xs) ≡ length xs * k
+pub flat-long : (k : ℕ) (xs : List Row) → Wide k xs → length (flat xs) ≡ length xs * k
 flat-long k [] w = sym (zero-mul k)
 flat-long k (x ∷ xs) w =
     length-append x (flat xs)
