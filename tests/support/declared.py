@@ -125,6 +125,12 @@ def the_type(crate, name):
     return found[0]
 
 
+def types(text, path):
+    """The types of the source that a signature or a type of a file names, with or without the crate or module before them."""
+    own = path.split(os.sep)[1]
+    return [the_type(before if before in crates() else own, name) for before, name in TYPE.findall(UNTYPED.sub("", text))]
+
+
 def imported(module, name):
     """What a name of a Rattle module stands for. A type of the source is declared in `declared`."""
     found = MODULE.fullmatch(module)
@@ -176,9 +182,7 @@ def cited(item, whole=False):
         text = uncommented(lines, "//")
         clauses = CLAUSE.search(text)
         end = clauses.start() if clauses else len(text)
-        kinds = TYPE.findall(UNTYPED.sub("", text[:end]))
-        own = item.path.split(os.sep)[1]
-        found = [the_type(c if c in crates() else own, name) for c, name in kinds] + list(spoken(text[end:], item.path))
+        found = types(text[:end], item.path) + list(spoken(text[end:], item.path))
     return [i for i in dict.fromkeys(found) if i is not item]
 
 
