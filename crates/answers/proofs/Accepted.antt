@@ -16,14 +16,14 @@ use Rattle.model.specs.Refusals.{verdict, reply}
 use Rattle.model.specs.Checks.{badNode, treeChecks, queryChecks, cursorChecks, roomChecks, pageChecks}
 use Rattle.model.specs.Accepted.{Ordered, Below}
 use Rattle.model.specs.Answers.{answers}
-use Rattle.model.specs.Pages.{rowOf, paged}
+use Rattle.model.specs.Pages.{rowOf, hasBegun, paged}
 use Rattle.model.proofs.Exists.{none-of}
 use Rattle.model.proofs.Refusals.{Passes, Passes-front}
 use Rattle.model.proofs.Accepted.{tree-ordered, tree-numbered, query-numbered, columns-most, columns-least, entries-some, last-path, query-evaluable}
 use Rattle.checks.proofs.Verdicts.{zero-of, cursor-numbered}
 use Rattle.tree.specs.Links.{PreviousSiblings}
 use Rattle.answers.specs.declared.Paged.{Paged}
-use Rattle.answers.specs.Page.{pageOutcome, Leaves}
+use Rattle.model.specs.Services.{pageOutcome, PageLeaves}
 use Rattle.answers.specs.Search.{Searchable}
 
 -- An accepted call.
@@ -43,7 +43,7 @@ module _ (t q : List ℕ) (columns : ℕ) (c : Cursor) (room : ℕ) (v : Reply) 
   pub page-tree : Ordered (treeOf t)
   page-tree = tree-ordered t (passes .0)
 
-  pub page-cursor : c .begun ≡ true → Below (sizeOf t) (rowOf columns c)
+  pub page-cursor : hasBegun c ≡ true → Below (sizeOf t) (rowOf columns c)
   unfolding cursorChecks Passes
   page-cursor b i l =
       let few : i < columns = omega (arith, length-take-le columns (c .first ∷ c .second ∷ c .third ∷ []) page-few) in
@@ -65,11 +65,11 @@ module _ (t q : List ℕ) (columns : ℕ) (c : Cursor) (room : ℕ) (v : Reply) 
 
 module _ (t q : List ℕ) (columns : ℕ) (c : Cursor) (buffer : List ℕ) (v : Reply) (p : v ≡ verdict (pageChecks t q columns c (length buffer))) where
   pub page-refused : (v .number ≡ 0 → ⊥)
-      → Leaves (pageOutcome t q columns c buffer) (record { number = v .number; place = v .place; count = 0; more = false }) c buffer
+      → PageLeaves (pageOutcome t q columns c buffer) (record { number = v .number; place = v .place; count = 0; more = false }) c buffer
   unfolding pageOutcome
   page-refused z = rw (← p, ne-eqb (v .number) 0 z) (refl, refl, refl)
 
-  pub page-accepted : v .number ≡ 0 → (r : Paged) (rows : List ℕ) → Leaves (paged columns (answers t q columns) c buffer) (r .reply) (r .cursor) rows
-      → Leaves (pageOutcome t q columns c buffer) (r .reply) (r .cursor) rows
+  pub page-accepted : v .number ≡ 0 → (r : Paged) (rows : List ℕ) → PageLeaves (paged columns (answers t q columns) c buffer) (r .reply) (r .cursor) rows
+      → PageLeaves (pageOutcome t q columns c buffer) (r .reply) (r .cursor) rows
   unfolding pageOutcome
   page-accepted z r rows h = rw (← p, eq-eqb (v .number) 0 z) h

@@ -14,19 +14,19 @@ use Rattle.model.specs.declared.Cursor.{Cursor}
 use Rattle.model.specs.declared.Reply.{Reply}
 use Rattle.model.specs.declared.PageReply.{PageReply}
 use Rattle.model.specs.Answers.{Row}
-use Rattle.model.specs.Pages.{Outcome, after, flat, paged, unpaged}
+use Rattle.model.specs.Pages.{Outcome, hasBegun, after, flat, paged, unpaged}
 use Rattle.model.specs.Refusals.{verdict}
 use Rattle.model.specs.Checks.{pageChecks}
 use Rattle.model.proofs.Booleans.{Seen, yes!, no!, seen, no-yes}
 use Rattle.model.proofs.Answers.{Wide, Rising, answers-rising, answers-wide}
-use Rattle.answers.specs.Page.{pageOutcome, replyOf, Leaves}
+use Rattle.model.specs.Services.{pageOutcome, pageReply, PageLeaves}
 use Rattle.answers.specs.Calls.{Lent, Call, Chain, accepted, Alike, rowsIn, rowsGiven, roomOf, rooms, answersOf, Tells, Demand3}
 use Rattle.answers.proofs.Accepted.{page-few}
 use Rattle.answers.proofs.Paging.{rows-back, wide-part, after-page, some-after}
 
 -- a call as the contract of `page` says that it goes
 abbrev went : Lent → Cursor → List ℕ → Outcome → Call
-went l c buffer o = record { lent = l; lentBuffer = buffer; reply = replyOf o; cursor = o .cursor; buffer = o .buffer }
+went l c buffer o = record { lent = l; lentBuffer = buffer; reply = pageReply o; cursor = o .cursor; buffer = o .buffer }
 
 -- what one call gave, where the answers from m on were those after the cursor
 record Step (l : Lent) (m : ℕ) (g : Call) : Type 0 where
@@ -96,7 +96,7 @@ step-owed l c m l₁ buffer h alike = go (seen (eqb (v .number) 0))
     go (no! t) = rw t (step-refused l c m l₁ buffer v h t)
 
 step : (l : Lent) (c : Cursor) (m : ℕ) (g : Call) → after (l .columns) (answersOf l) c ≡ drop m (answersOf l)
-    → Leaves (pageOutcome (g .lent .tree) (g .lent .query) (g .lent .columns) c (g .lentBuffer)) (g .reply) (g .cursor) (g .buffer)
+    → PageLeaves (pageOutcome (g .lent .tree) (g .lent .query) (g .lent .columns) c (g .lentBuffer)) (g .reply) (g .cursor) (g .buffer)
     → (accepted g ≡ true → g .lent ≡ l) → Step l m g
 step l c m g h d alike =
     subst (λ (z : Call). Step l m z)
@@ -128,7 +128,7 @@ module _ (l : Lent) where
   rooms-one [] g = omega arith
   rooms-one (d ∷ before) g = omega (arith, rooms-one before g)
 
-  tells : (c : Cursor) → c .begun ≡ false → (before later : List Call) (g : Call) → Chain c (before ++ (g ∷ later)) → Alike l (before ++ (g ∷ later))
+  tells : (c : Cursor) → hasBegun c ≡ false → (before later : List Call) (g : Call) → Chain c (before ++ (g ∷ later)) → Alike l (before ++ (g ∷ later))
       → Tells l before g
   tells c fresh before later g ch al =
       let s = rw (zero-add (rooms before)) at (step-after before later g c 0 (rw fresh) ch al) in
@@ -150,7 +150,7 @@ module _ (l : Lent) where
   -- the first m answers, m being the smaller of the number of answers and the sum of the whole rows that the accepted
   -- calls had room for; the count of each call is what it added to m; an accepted call says that there is more exactly if
   -- m after it is below the number of answers; a refused one counts nothing and says that there is no more.
-  pub demand3 : (c : Cursor) → c .begun ≡ false → (gs : List Call) → Chain c gs → Alike l gs → Demand3 l gs
+  pub demand3 : (c : Cursor) → hasBegun c ≡ false → (gs : List Call) → Chain c gs → Alike l gs → Demand3 l gs
   demand3 c fresh gs ch al =
       record {
         rows = rows-from gs c 0 (rw fresh) ch al ∙ take-min (rooms gs);

@@ -13,7 +13,7 @@ use lib.Seq.{take-at, drop-at, getD-take, getD-drop, drop-drop}
 use borrow.Author.Tests.{lt-ltb, le-ltb}
 use Rattle.model.specs.declared.Cursor.{Cursor}
 use Rattle.model.specs.Answers.{Row, keep, less}
-use Rattle.model.specs.Pages.{rowOf, after, atRow, moved, flat, some}
+use Rattle.model.specs.Pages.{rowOf, hasBegun, after, atRow, moved, flat, some}
 use Rattle.model.proofs.Answers.{In, Wide, Rising, less-self, less-back, kept-in}
 use Rattle.answers.specs.Calls.{rowsIn}
 use Rattle.answers.proofs.Odometer.{keep-all}
@@ -47,9 +47,9 @@ in-drop (suc n) r [] h = h
 in-drop (suc n) r (x ∷ xs) h = _⊎_.inr (in-drop n r xs h)
 
 pub in-after : (r : Row) (xs : List Row) (k : ℕ) (c : Cursor) → In r (after k xs c) → In r xs
-in-after r xs k c = go (c .begun) refl
+in-after r xs k c = go (hasBegun c) refl
   where
-    go : (b : Bool) → c .begun ≡ b → In r (after k xs c) → In r xs
+    go : (b : Bool) → hasBegun c ≡ b → In r (after k xs c) → In r xs
     go true e h = kept-in (less (rowOf k c)) r xs (rw e at h)
     go false e h = rw e at h
 
@@ -78,7 +78,7 @@ row-at k c (x ∷ y ∷ []) e h = rw (← e)
 row-at k c (x ∷ y ∷ z ∷ []) e h = rw (← e)
 row-at k c (x ∷ y ∷ z ∷ u ∷ r) e h = absurd (omega arith)
 
-moved-begun : (c : Cursor) (r : Row) (rs : List Row) → moved c (r ∷ rs) .begun ≡ true
+moved-begun : (c : Cursor) (r : Row) (rs : List Row) → hasBegun (moved c (r ∷ rs)) ≡ true
 moved-begun c r [] = refl
 moved-begun c r (s ∷ ss) = moved-begun (atRow c r) s ss
 

@@ -14,7 +14,7 @@ use Rattle.model.specs.Tree.{sizeOf}
 use Rattle.model.specs.QueryTable.{lastOf}
 use Rattle.model.specs.Results.{related}
 use Rattle.model.specs.Answers.{Row, less, keep, consIf, allRows, satisfied, answers}
-use Rattle.model.specs.Pages.{rowOf, after}
+use Rattle.model.specs.Pages.{rowOf, hasBegun, after}
 use Rattle.model.proofs.Exists.{any-cong, any-swap}
 use Rattle.model.proofs.Bytes.{memb-tab}
 use Rattle.model.proofs.Answers.{In, kept-in, all-below}
@@ -63,10 +63,10 @@ zeros (suc (suc (suc zero))) h = refl
 zeros (suc (suc (suc (suc k)))) h = absurd (omega arith)
 
 module _ (n k : ℕ) (c : Cursor) where
-  pub start-begun : (o : List Row) → o ≡ keep (less (rowOf k c)) (allRows n k) → c .begun ≡ true → o ≡ after k (allRows n k) c
+  pub start-begun : (o : List Row) → o ≡ keep (less (rowOf k c)) (allRows n k) → hasBegun c ≡ true → o ≡ after k (allRows n k) c
   start-begun o e t = rw t e
 
-  pub start-fresh : c .begun ≡ false → 1 ≤ n → k ≤ 3
+  pub start-fresh : hasBegun c ≡ false → 1 ≤ n → k ≤ 3
       → (take {A = ℕ} k (0 ∷ 0 ∷ 0 ∷ []) ∷ keep (less (take {A = ℕ} k (0 ∷ 0 ∷ 0 ∷ []))) (allRows n k)) ≡ after k (allRows n k) c
   start-fresh t l h = rw (t, zeros k h) (sym (zeros-first n k l))
 
@@ -109,9 +109,9 @@ module _ (t q : List ℕ) (k : ℕ) where
   pub answer-first : (s r : Spot) (c : Cursor) → ahead k (answers t q k) r ≡ keep (satisfied t q) (ahead k (allRows (sizeOf t) k) s)
       → ahead k (allRows (sizeOf t) k) s ≡ after k (allRows (sizeOf t) k) c → ahead k (answers t q k) r ≡ after k (answers t q k) c
   unfolding answers
-  answer-first s r c p e = p ∙ ap (keep (satisfied t q)) e ∙ go (c .begun) refl
+  answer-first s r c p e = p ∙ ap (keep (satisfied t q)) e ∙ go (hasBegun c) refl
     where
-      go : (b : Bool) → c .begun ≡ b → keep (satisfied t q) (after k (allRows (sizeOf t) k) c) ≡ after k (keep (satisfied t q) (allRows (sizeOf t) k)) c
+      go : (b : Bool) → hasBegun c ≡ b → keep (satisfied t q) (after k (allRows (sizeOf t) k) c) ≡ after k (keep (satisfied t q) (allRows (sizeOf t) k)) c
       go true e = rw e (keep-swap (satisfied t q) (less (rowOf k c)) (allRows (sizeOf t) k))
       go false e = rw e
 

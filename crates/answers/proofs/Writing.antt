@@ -16,8 +16,8 @@ use Rattle.model.specs.Pages.{after, atRow, moved, flat, some, paged}
 use Rattle.model.proofs.Answers.{In, Wide}
 use Rattle.answers.specs.declared.Spot.{Spot}
 use Rattle.answers.specs.declared.Paged.{Paged}
-use Rattle.answers.specs.Page.{pageOf, Leaves}
-use Rattle.answers.specs.Search.{rowAt, ahead}
+use Rattle.model.specs.Services.{PageLeaves}
+use Rattle.answers.specs.Search.{rowAt, ahead, pageOf}
 use Rattle.answers.proofs.Paging.{in-take, in-drop, in-after, some-not}
 
 pub paste-more : (d s l : List ℕ) (at j : ℕ) → l ≡ paste d at s j → at + j < length d → j < length s → set l (at + j) (getD s j 0) ≡ paste d at s (j + 1)
@@ -28,7 +28,7 @@ paste-done d s l at j k e h g = e ∙ ap (paste d at s) (let z : j ≡ k = omega
 
 -- the cursor at a row of three numbers of which k count
 pub cursor-row : (k : ℕ) (c : Cursor) (row : List ℕ) (second third : ℕ) → second ≡ cond (ltb 1 k) (getD row 1 0) (c .second) → third ≡ cond (ltb 2 k) (getD row 2 0) (c .third)
-    → 1 ≤ k → k ≤ 3 → length row ≡ 3 → _≡_ {A = Cursor} (record { begun = true; first = getD row 0 0; second = second; third = third }) (atRow c (take k row))
+    → 1 ≤ k → k ≤ 3 → length row ≡ 3 → _≡_ {A = Cursor} (record { begun = 1; first = getD row 0 0; second = second; third = third }) (atRow c (take k row))
 cursor-row k c [] u v p q l h e = absurd (omega arith)
 cursor-row k c (x ∷ []) u v p q l h e = absurd (omega arith)
 cursor-row k c (x ∷ y ∷ []) u v p q l h e = absurd (omega arith)
@@ -157,7 +157,7 @@ module _ {k : ℕ} {L : List Row} {c : Cursor} {first : List ℕ} {at : Spot} {l
 
   -- what a page leaves that is done
   done : (r : Paged) (more : Bool) → r ≡ pageOf count more last → take (length first / k) (after k L c) ≡ take count (after k L c) → some (drop (length first / k) (after k L c)) ≡ more
-      → Leaves (paged k L c first) (r .reply) (r .cursor) rows
+      → PageLeaves (paged k L c first) (r .reply) (r .cursor) rows
   done r more e T m = (
     ap (λ (z : Paged). z .reply) e ∙ (λ i. record { number = 0; place = 0; count = sym (ap length T ∙ g .long) i; more = sym m i }),
     ap (λ (z : Paged). z .cursor) e ∙ g .gone ∙ ap (moved c) (sym T),
@@ -165,12 +165,12 @@ module _ {k : ℕ} {L : List Row} {c : Cursor} {first : List ℕ} {at : Spot} {l
   )
 
   -- the buffer is full, and a row is left
-  pub page-full : (r : Paged) → r ≡ pageOf count true last → at .there ≡ true → count ≡ length first / k → Leaves (paged k L c first) (r .reply) (r .cursor) rows
+  pub page-full : (r : Paged) → r ≡ pageOf count true last → at .there ≡ true → count ≡ length first / k → PageLeaves (paged k L c first) (r .reply) (r .cursor) rows
   page-full r e there f =
       done r true e (ap (λ (x : ℕ). take x (after k L c)) (sym f)) (ap (λ (x : ℕ). some (drop x (after k L c))) (sym f) ∙ rw (next there))
 
   -- no row is left
-  pub page-out : (r : Paged) → r ≡ pageOf count false last → at .there ≡ false → Leaves (paged k L c first) (r .reply) (r .cursor) rows
+  pub page-out : (r : Paged) → r ≡ pageOf count false last → at .there ≡ false → PageLeaves (paged k L c first) (r .reply) (r .cursor) rows
   page-out r e gone =
       done r false e (take-all (length first / k) (after k L c) (omega (arith, short, g .few)) ∙ sym (take-all count (after k L c) short))
       (some-not (drop (length first / k) (after k L c)) (omega (arith, length-drop (length first / k) (after k L c), short, g .few)))

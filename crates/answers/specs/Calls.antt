@@ -8,7 +8,7 @@ use lib.ListN.{length, take, drop}
 use Rattle.model.specs.declared.Cursor.{Cursor}
 use Rattle.model.specs.declared.PageReply.{PageReply}
 use Rattle.model.specs.Answers.{Row, answers}
-use Rattle.answers.specs.Page.{pageOutcome, Leaves}
+use Rattle.model.specs.Services.{pageOutcome, PageLeaves}
 
 -- what a page call is lent beside its cursor and its buffer
 pub record Lent : Type 0 where
@@ -29,7 +29,7 @@ pub record Call : Type 0 where
 abbrev pub Chain : Cursor → List Call → Type 0
 Chain c [] = Unit
 Chain c (g ∷ gs) =
-    Leaves (pageOutcome (g .lent .tree) (g .lent .query) (g .lent .columns) c (g .lentBuffer)) (g .reply) (g .cursor) (g .buffer)
+    PageLeaves (pageOutcome (g .lent .tree) (g .lent .query) (g .lent .columns) c (g .lentBuffer)) (g .reply) (g .cursor) (g .buffer)
     × Chain (g .cursor) gs
 
 -- the call was accepted

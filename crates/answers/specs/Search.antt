@@ -1,7 +1,7 @@
 -- How the code goes through the rows: what its inner functions ask for and give.
 use Prim.Native.Nat.{ℕ, _≤_}
 use mathlib.Core.Path.{_≡_}
-use mathlib.Core.Bool.{true, cond}
+use mathlib.Core.Bool.{Bool, true, cond}
 use mathlib.Core.List.{List, [], _∷_}
 use lib.ListN.{length, take}
 use Rattle.model.specs.Tree.{sizeOf}
@@ -11,6 +11,8 @@ use Rattle.model.specs.Answers.{Row, less, keep}
 use Rattle.steps.specs.Moves.{Linked}
 use Rattle.eval.specs.Evaluation.{OfKind}
 use Rattle.answers.specs.declared.Spot.{Spot}
+use Rattle.answers.specs.declared.Paged.{Paged}
+use Rattle.model.specs.declared.Cursor.{Cursor}
 
 -- the row of a spot for k variables; its numbers from k on are ignored
 abbrev pub rowAt : ℕ → Spot → Row
@@ -31,3 +33,7 @@ pub record Searchable (t prev q : List ℕ) (k : ℕ) : Type 0 where
   pub least : 1 ≤ k
   pub most : k ≤ 3
   pub query : (row : Row) → length row ≡ k → Below (sizeOf t) row → Evaluable t q row
+
+-- the result of the by-value page function, for an accepted call
+abbrev pub pageOf : ℕ → Bool → Cursor → Paged
+pageOf count more c = record { reply = record { number = 0; place = 0; count = count; more = more }; cursor = c }

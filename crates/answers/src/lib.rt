@@ -8,10 +8,10 @@ ghost use lib.ListN.{length, take};
 ghost use lib.Seq.{paste};
 ghost use Rattle.model.specs.Tree.{sizeOf};
 ghost use Rattle.model.specs.Answers.{less, keep, allRows, satisfied, answers};
-ghost use Rattle.model.specs.Pages.{rowOf, after, atRow, paged};
+ghost use Rattle.model.specs.Pages.{rowOf, hasBegun, after, atRow, paged};
 ghost use Rattle.model.specs.Accepted.{Below};
-ghost use Rattle.answers.specs.Page.{pageOutcome, pageOf, Leaves};
-ghost use Rattle.answers.specs.Search.{ahead, Stands, Searchable};
+ghost use Rattle.model.specs.Services.{pageOutcome, PageLeaves};
+ghost use Rattle.answers.specs.Search.{ahead, Stands, Searchable, pageOf};
 
 // The reply to a page call, and the cursor after it.
 pub struct Paged {
@@ -54,10 +54,11 @@ fn next(n: usize, k: usize, row: [u16; 3]) -> Spot
 
 // Where a cursor goes on: at the row after its own, or at the first of all.
 fn start(n: usize, k: usize, cursor: model::Cursor) -> Spot
-    requires { ⌜ (1 ≤ n) × ((n ≤ 256) × ((k ≤ 3) × (cursor .begun ≡ true → Below n (rowOf k cursor)))) ⌝ }
+    requires { ⌜ (1 ≤ n) × ((n ≤ 256) × ((k ≤ 3) × (hasBegun cursor ≡ true → Below n (rowOf k cursor)))) ⌝ }
     ensures { λ r. ⌜ ahead k (allRows n k) r ≡ after k (allRows n k) cursor ⌝ }
 {
-    if cursor.begun {
+    let begun = cursor.begun != 0;
+    if begun {
         return next(n, k, [cursor.first, cursor.second, cursor.third]);
     }
     Spot {
@@ -117,7 +118,7 @@ fn answer_after(tree: &[u16], prev: &[u16], query: &[u16], k: usize, row: [u16; 
 fn first_answer(tree: &[u16], prev: &[u16], query: &[u16], k: usize, cursor: model::Cursor) -> Spot
     requires { ⌜
         Searchable (now tree) (now prev) (now query) k
-        × (cursor .begun ≡ true → Below (sizeOf (now tree)) (rowOf k cursor))
+        × (hasBegun cursor ≡ true → Below (sizeOf (now tree)) (rowOf k cursor))
         ⌝ }
     ensures { λ r.
         ⌜
@@ -155,7 +156,7 @@ fn cursor_at(k: usize, cursor: model::Cursor, row: [u16; 3]) -> model::Cursor
     ensures { λ r. ⌜ r ≡ atRow cursor (take k row) ⌝ }
 {
     model::Cursor {
-        begun: true,
+        begun: 1,
         first: row[0],
         second: choose(1 < k, row[1], cursor.second),
         third: choose(2 < k, row[2], cursor.third),
@@ -189,11 +190,11 @@ fn write_page(
 ) -> Paged
     requires { ⌜
         Searchable (now tree) (now prev) (now query) k
-        × (cursor .begun ≡ true → Below (sizeOf (now tree)) (rowOf k cursor))
+        × (hasBegun cursor ≡ true → Below (sizeOf (now tree)) (rowOf k cursor))
         ⌝ }
     ensures { λ r.
         ⌜
-        Leaves (paged k (answers (now (tree .entry)) (now (query .entry)) k) cursor (now (rows .entry)))
+        PageLeaves (paged k (answers (now (tree .entry)) (now (query .entry)) k) cursor (now (rows .entry)))
         (r .reply) (r .cursor) (now (rows .exit))
         ⌝ }
 {
@@ -226,7 +227,7 @@ pub fn page_from(
 ) -> Paged
     ensures { λ r.
         ⌜
-        Leaves (pageOutcome (now (tree .entry)) (now (query .entry)) columns cursor (now (rows .entry)))
+        PageLeaves (pageOutcome (now (tree .entry)) (now (query .entry)) columns cursor (now (rows .entry)))
         (r .reply) (r .cursor) (now (rows .exit))
         ⌝ }
 {
@@ -256,7 +257,7 @@ pub fn page(
 ) -> model::PageReply
     ensures { λ r.
         ⌜
-        Leaves (pageOutcome (now (tree .entry)) (now (query .entry)) columns (now (cursor .entry)) (now (rows .entry)))
+        PageLeaves (pageOutcome (now (tree .entry)) (now (query .entry)) columns (now (cursor .entry)) (now (rows .entry)))
         r (now (cursor .exit)) (now (rows .exit))
         ⌝ }
 {

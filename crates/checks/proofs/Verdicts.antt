@@ -13,7 +13,7 @@ use Rattle.model.specs.declared.Reply.{Reply}
 use Rattle.model.specs.Tree.{sizeOf}
 use Rattle.model.specs.Refusals.{Check, lowest, verdict, reply}
 use Rattle.model.specs.Checks.{badNode, treeChecks, queryChecks, nodeChecks, cursorChecks, setChecks, roomChecks, tableChecks}
-use Rattle.model.specs.Pages.{rowOf}
+use Rattle.model.specs.Pages.{rowOf, hasBegun}
 use Rattle.model.proofs.Refusals.{Passes-front, numbered, accepted, stop-at, pass-at}
 use Rattle.model.proofs.Accepted.{tree-ordered, columns-most, tree-numbered, query-numbered}
 
@@ -62,20 +62,20 @@ module _ (t : List ℕ) (columns : ℕ) (c : Cursor) (used x : ℕ) where
   numbers = c .first ∷ c .second ∷ c .third ∷ []
 
   -- the lowest bad number among those that are used
-  place : x ≡ lowest (length (take used numbers)) (badNode t (take used numbers)) → used ≡ cond (c .begun) columns 0 → columns ≤ 3
-      → x ≡ lowest (cond (c .begun) columns 0) (badNode t (rowOf columns c))
+  place : x ≡ lowest (length (take used numbers)) (badNode t (take used numbers)) → used ≡ cond (hasBegun c) columns 0 → columns ≤ 3
+      → x ≡ lowest (cond (hasBegun c) columns 0) (badNode t (rowOf columns c))
   unfolding lowest
-  place p e h = p ∙ go (c .begun) refl
+  place p e h = p ∙ go (hasBegun c) refl
     where
-      go : (b : Bool) → c .begun ≡ b → lowest (length (take used numbers)) (badNode t (take used numbers)) ≡ lowest (cond (c .begun) columns 0) (badNode t (rowOf columns c))
+      go : (b : Bool) → hasBegun c ≡ b → lowest (length (take used numbers)) (badNode t (take used numbers)) ≡ lowest (cond (hasBegun c) columns 0) (badNode t (rowOf columns c))
       go true d = let u : used ≡ columns = e ∙ rw d in rw (d, u, length-take-le columns numbers h)
       go false d = let u : used ≡ 0 = e ∙ rw d in rw (d, u)
 
-  module _ (r : Reply) (p : x ≡ lowest (length (take used numbers)) (badNode t (take used numbers))) (e : used ≡ cond (c .begun) columns 0) (h : columns ≤ 3) where
+  module _ (r : Reply) (p : x ≡ lowest (length (take used numbers)) (badNode t (take used numbers))) (e : used ≡ cond (hasBegun c) columns 0) (h : columns ≤ 3) where
     pub cursor-stop : r ≡ reply 17 x → x < used → r ≡ verdict (cursorChecks t columns c)
     unfolding cursorChecks
-    cursor-stop a l = stop-at 17 [] (cond (c .begun) columns 0) x (badNode t (rowOf columns c)) r a (place p e h) (rw (← e) l)
+    cursor-stop a l = stop-at 17 [] (cond (hasBegun c) columns 0) x (badNode t (rowOf columns c)) r a (place p e h) (rw (← e) l)
 
     pub cursor-pass : r ≡ reply 0 0 → used ≤ x → r ≡ verdict (cursorChecks t columns c)
     unfolding cursorChecks verdict
-    cursor-pass a l = pass-at 17 [] (cond (c .begun) columns 0) x (badNode t (rowOf columns c)) r a (place p e h) (rw (← e) l)
+    cursor-pass a l = pass-at 17 [] (cond (hasBegun c) columns 0) x (badNode t (rowOf columns c)) r a (place p e h) (rw (← e) l)

@@ -64,7 +64,7 @@ fn check_cursor(tree: &[u16], columns: usize, cursor: model::Cursor) -> model::R
     requires { ⌜ columns ≤ 3 ⌝ }
     ensures { λ r. ⌜ r ≡ verdict (cursorChecks (now (tree .entry)) columns cursor) ⌝ }
 {
-    let used = used_numbers(cursor.begun, columns);
+    let used = used_numbers(cursor.begun != 0, columns);
     let row = [cursor.first, cursor.second, cursor.third];
     let k = lowest_bad_node(tree, &row[..used]);
     if k < used {

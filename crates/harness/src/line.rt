@@ -184,7 +184,7 @@ pub fn copy_rows(line: &Line, part: usize, rows: &mut table::Rows) {
 // A part as a cursor: BEGUN FIRST SECOND THIRD.
 pub fn cursor(line: &Line, part: usize) -> model::Cursor {
     model::Cursor {
-        begun: number(line, part, 0) != 0,
+        begun: table::byte(number(line, part, 0)),
         first: table::narrow(number(line, part, 1)),
         second: table::narrow(number(line, part, 2)),
         third: table::narrow(number(line, part, 3)),

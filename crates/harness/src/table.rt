@@ -64,6 +64,14 @@ pub fn byte_at(bytes: &[u8], at: usize) -> u8 {
     0
 }
 
+// A number as a byte; 0 where it is none.
+pub fn byte(x: usize) -> u8 {
+    if x < 256 {
+        return x as u8;
+    }
+    0
+}
+
 // A number as one of a table; 0 where it is none.
 pub fn narrow(x: usize) -> u16 {
     if x < 65536 {

@@ -1,2 +1,1 @@
-pub mod Services
 pub mod Tables

@@ -3,7 +3,7 @@
 mod write;
 
 ghost use mathlib.Core.Bool.{true, false};
-ghost use Rattle.images.specs.Services.{ImageLeaves, PairsLeave};
+ghost use Rattle.model.specs.Services.{ImageLeaves, PairsLeave};
 
 // The image of a node set under the query, or under its converse where back is set.
 fn image(

@@ -10,7 +10,7 @@ use Rattle.model.specs.Sets.{bit}
 use Rattle.model.specs.Tree.{Tree, sizeOf, treeOf}
 use Rattle.model.specs.Axes.{descendantOrSelf}
 use Rattle.model.specs.QueryTable.{entriesOf, kind, left, right, entry, lastOf}
-use Rattle.model.specs.Pages.{rowOf}
+use Rattle.model.specs.Pages.{rowOf, hasBegun}
 use Rattle.model.specs.Refusals.{Check, refuse, refuseHere, refuseAt}
 
 -- The tree table.
@@ -170,7 +170,7 @@ nodeChecks t columns nodes =
 
 -- 17 for the used numbers of a begun cursor
 unfoldable pub cursorChecks : List ℕ → ℕ → Cursor → List Check
-cursorChecks t columns c = refuseAt 17 (cond (c .begun) columns 0) (badNode t (rowOf columns c)) ∷ []
+cursorChecks t columns c = refuseAt 17 (cond (hasBegun c) columns 0) (badNode t (rowOf columns c)) ∷ []
 
 -- 19: a byte is above 1
 abbrev pub badByte : List ℕ → ℕ → Bool

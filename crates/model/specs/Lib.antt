@@ -9,5 +9,6 @@ pub mod Answers
 pub mod Pages
 pub mod Refusals
 pub mod Checks
+pub mod Services
 pub mod Warehouse
 pub mod Accepted

@@ -1,9 +1,10 @@
 -- A page of answers: a function of the answers, the cursor and the buffer that a call is lent (document 01: 'Sets, pairs and
 -- walks').
 use Prim.Native.Nat.{ℕ, _/_}
-use mathlib.Core.Bool.{Bool, true, false, cond}
+use mathlib.Core.Bool.{Bool, true, false, not, cond}
 use mathlib.Core.List.{List, [], _∷_, _++_}
 use lib.ListN.{length, take, drop, getD}
+use lib.Dec.{eqb}
 use Rattle.model.specs.declared.Cursor.{Cursor}
 use Rattle.model.specs.declared.Reply.{Reply}
 use Rattle.model.specs.Answers.{Row, less, keep}
@@ -12,13 +13,17 @@ use Rattle.model.specs.Answers.{Row, less, keep}
 abbrev pub rowOf : ℕ → Cursor → Row
 rowOf k c = take k (c .first ∷ c .second ∷ c .third ∷ [])
 
+-- the cursor has begun (document 01: whether the walk has begun): every byte but 0 says so
+abbrev pub hasBegun : Cursor → Bool
+hasBegun c = not (eqb (c .begun) 0)
+
 -- the rows strictly after the cursor's row, or all where the cursor has not begun; its row need not be among them
 abbrev pub after : ℕ → List Row → Cursor → List Row
-after k rows c = cond (c .begun) (keep (less (rowOf k c)) rows) rows
+after k rows c = cond (hasBegun c) (keep (less (rowOf k c)) rows) rows
 
 -- the cursor at a row; its numbers beyond the row are kept
 abbrev pub atRow : Cursor → Row → Cursor
-atRow c r = record { begun = true; first = getD r 0 (c .first); second = getD r 1 (c .second); third = getD r 2 (c .third) }
+atRow c r = record { begun = 1; first = getD r 0 (c .first); second = getD r 1 (c .second); third = getD r 2 (c .third) }
 
 -- the cursor moved to the last of the rows; unmoved where there is none
 abbrev pub moved : Cursor → List Row → Cursor

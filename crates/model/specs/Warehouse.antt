@@ -84,11 +84,11 @@ allCorrect (l ∷ ls) = correct l && allCorrect ls
 
 -- a fresh cursor (document 01: a fresh walk)
 abbrev pub fresh : Cursor
-fresh = record { begun = false; first = 0; second = 0; third = 0 }
+fresh = record { begun = 0; first = 0; second = 0; third = 0 }
 
 -- a cursor begun at the row (a, b)
 abbrev pub begunAt : ℕ → ℕ → Cursor
-begunAt a b = record { begun = true; first = a; second = b; third = 0 }
+begunAt a b = record { begun = 1; first = a; second = b; third = 0 }
 
 -- the page of these rows
 abbrev pub page : List Row → Bool → Page

@@ -20,11 +20,11 @@ pub struct PageReply {
     pub more: bool,
 }
 
-// Where a caller stands in the answers of a query (document 01: the walk): whether paging has begun, and the last row
-// given, as three node numbers. All zero is a fresh cursor.
+// Where a caller stands in the answers of a query (document 01: the walk): whether paging has begun, 0 if not and any other
+// byte if so, and the last row given, as three node numbers. All zero is a fresh cursor.
 #[repr(C)]
 pub struct Cursor {
-    pub begun: bool,
+    pub begun: u8,
     pub first: u16,
     pub second: u16,
     pub third: u16,

@@ -13,14 +13,14 @@ use Rattle.model.specs.declared.Reply.{Reply}
 use Rattle.model.specs.declared.PageReply.{PageReply}
 use Rattle.model.specs.Tree.{sizeOf}
 use Rattle.model.specs.Answers.{Row, blocks, allRows, consIf, keep, satisfied, answers}
-use Rattle.model.specs.Pages.{after, paged}
+use Rattle.model.specs.Pages.{hasBegun, after, paged}
 use Rattle.model.specs.Refusals.{verdict}
 use Rattle.model.specs.Checks.{treeChecks, queryChecks, cursorChecks, roomChecks, pageChecks}
 use Rattle.model.proofs.Accepted.{tree-numbered, query-numbered, columns-least}
 use Rattle.model.proofs.Answers.{answers-rising, answers-wide}
 use Rattle.model.proofs.Booleans.{Seen, yes!, no!, seen}
 use Rattle.model.proofs.Refusals.{Passes-front}
-use Rattle.answers.specs.Page.{pageOutcome, Leaves}
+use Rattle.model.specs.Services.{pageOutcome, PageLeaves}
 use Rattle.answers.proofs.Accepted.{page-few, page-tree}
 use Rattle.answers.proofs.Paging.{after-page, some-after}
 
@@ -79,12 +79,12 @@ pub record Printed (t q : List ℕ) (k : ℕ) (c : Cursor) (total : ℕ) : Type 
   pub within : total ≤ length (answers t q k)
   pub next : after k (answers t q k) c ≡ drop total (answers t q k)
 
-pub none-printed : (t q : List ℕ) (k : ℕ) (c : Cursor) (total : ℕ) → c .begun ≡ false → total ≡ 0 → Printed t q k c total
+pub none-printed : (t q : List ℕ) (k : ℕ) (c : Cursor) (total : ℕ) → hasBegun c ≡ false → total ≡ 0 → Printed t q k c total
 none-printed t q k c total e z = record { within = omega arith; next = rw (e, z) }
 
 -- an accepted page
 module _ (t q : List ℕ) (k : ℕ) (c : Cursor) (rows : List ℕ) (r : PageReply) (last : Cursor) (page : List ℕ)
-    (d : Leaves (pageOutcome t q k c rows) r last page) (z : r .number ≡ 0) where
+    (d : PageLeaves (pageOutcome t q k c rows) r last page) (z : r .number ≡ 0) where
   abbrev v : Reply
   v = verdict (pageChecks t q k c (length rows))
 
@@ -96,7 +96,7 @@ module _ (t q : List ℕ) (k : ℕ) (c : Cursor) (rows : List ℕ) (r : PageRepl
   number-is : v .number ≡ 0
   number-is = number-seen (seen (eqb (v .number) 0))
 
-  leaves : Leaves (paged k (answers t q k) c rows) r last page
+  leaves : PageLeaves (paged k (answers t q k) c rows) r last page
   unfolding pageOutcome
   leaves = rw (eq-eqb (v .number) 0 number-is) at d
 

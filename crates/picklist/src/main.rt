@@ -32,7 +32,7 @@ fn print_rows(rows: &[u16], k: usize, count: usize)
 fn print_list(tree: &[u16], query: &[u16], columns: usize) {
     let mut rows = [0; 3072];
     let mut cursor = model::Cursor {
-        begun: false,
+        begun: 0,
         first: 0,
         second: 0,
         third: 0,

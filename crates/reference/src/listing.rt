@@ -171,7 +171,7 @@ fn choose(there: bool, x: u16, y: u16) -> u16 {
 // The cursor at a row; numbers beyond the variables are kept.
 pub fn cursor_at(s: Space, cursor: model::Cursor, row: usize) -> model::Cursor {
     model::Cursor {
-        begun: true,
+        begun: 1,
         first: table::narrow(node(s, row, 0)),
         second: choose(1 < s.columns, table::narrow(node(s, row, 1)), cursor.second),
         third: choose(2 < s.columns, table::narrow(node(s, row, 2)), cursor.third),

@@ -4,8 +4,8 @@ ghost use mathlib.Core.Path.{_≡_};
 ghost use mathlib.Core.Bool.{true, false};
 ghost use Rattle.model.specs.Refusals.{verdict};
 ghost use Rattle.model.specs.Checks.{treeChecks, queryChecks};
-ghost use Rattle.images.specs.Services.{ImageLeaves, PairsLeave};
-ghost use Rattle.answers.specs.Page.{pageOutcome, Leaves};
+ghost use Rattle.model.specs.Services.{ImageLeaves, PairsLeave};
+ghost use Rattle.model.specs.Services.{pageOutcome, PageLeaves};
 ghost use Rattle.names.specs.Names.{nameChecks, partFor, IsPart};
 
 // The check of a tree table.
@@ -94,7 +94,7 @@ pub extern "C" fn gz_page(
 ) -> model::PageReply
     ensures { λ r.
         ⌜
-        Leaves (pageOutcome (now (tree .entry)) (now (query .entry)) columns (now (cursor .entry)) (now (rows .entry)))
+        PageLeaves (pageOutcome (now (tree .entry)) (now (query .entry)) columns (now (cursor .entry)) (now (rows .entry)))
         r (now (cursor .exit)) (now (rows .exit))
         ⌝ }
 {

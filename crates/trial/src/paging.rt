@@ -130,7 +130,7 @@ fn page_through_from_start(
 ) {
     let fresh = Position {
         cursor: model::Cursor {
-            begun: false,
+            begun: 0,
             first: 65535,
             second: 1,
             third: 60000,
@@ -159,7 +159,7 @@ fn page_through_from_anywhere(
 ) {
     let row = random::below(seed, s.count);
     let any = model::Cursor {
-        begun: true,
+        begun: 1,
         first: 0,
         second: 60000,
         third: 65535,

@@ -43,7 +43,7 @@ use denote.Triple.Walked.{says}
 use Rattle.model.specs.declared.Cursor.{Cursor}
 use Rattle.model.specs.declared.PageReply.{PageReply}
 use Rattle.answers.specs.declared.Paged.{Paged}
-use Rattle.answers.specs.Page.{pageOutcome, Leaves}
+use Rattle.model.specs.Services.{pageOutcome, PageLeaves}
 use Rattle.model.proofs.Cursor as T
 use Rattle.model.proofs.Cursor.Laws as T′
 use Rattle.answers.proofs.Paged as P
@@ -103,7 +103,7 @@ module _ {M : Type 1} (𝓤 : URA M) (H : Heap 𝓤) (A : Atoms 𝓤) (W : Given
 
   -- what `page_from` says of its result and of the last value of rows
   abbrev Said : Paged → Lasts page-from.ended κs′ a′ → Type 0
-  Said r ws = Leaves (pageOutcome (t .now) (u .now) k (c .now) (x .now)) (r .reply) (r .cursor) (ws .1 .1 .1 .1 .0)
+  Said r ws = PageLeaves (pageOutcome (t .now) (u .now) k (c .now) (x .now)) (r .reply) (r .cursor) (ws .1 .1 .1 .1 .0)
 
   -- what is to be ensured, at some last values
   abbrev Ensured : PageReply → Lasts page.ended κs a → SProp 𝓤

@@ -4,7 +4,7 @@ use Rattle.answers.proofs.start.Statement.{statement}
 use Rattle.answers.proofs.start.Tie as tie
 
 next-requires : tie.Need-next-requires
-next-requires c κs = (c .before .pre .1 .0, (c .before .pre .1 .1 .0, c .before .pre .1 .1 .1 (c .if1 .taken)))
+next-requires c κs = let p = c .before .before .pre in (p .1 .0, (p .1 .1 .0, p .1 .1 .1 (c .if1 .taken)))
 
 returns : tie.Need-returns
 returns c = search (start-begun, needs)

@@ -40,7 +40,7 @@ use denote.Triple.Table.{entered, cited}
 use denote.Triple.Walked.{says}
 use Rattle.model.specs.declared.Cursor.{Cursor}
 use Rattle.model.specs.declared.PageReply.{PageReply}
-use Rattle.answers.specs.Page.{pageOutcome, Leaves}
+use Rattle.model.specs.Services.{pageOutcome, PageLeaves}
 use Rattle.model.proofs.Cursor as T
 use Rattle.model.proofs.PageReply as R
 use Rattle.model.proofs.PageReply.Laws as R′
@@ -88,7 +88,7 @@ module _ {M : Type 1} (𝓤 : URA M) (H : Heap 𝓤) (A : Atoms 𝓤) (W : Given
 
   -- what `answers::page` says of the reply and of the last values of cursor and rows
   abbrev Said : PageReply → Lasts page.ended κs a → Type 0
-  Said r ws = Leaves (pageOutcome (t .now) (u .now) k (c .now) (x .now)) r (ws .1 .1 .1 .0) (ws .1 .1 .1 .1 .0)
+  Said r ws = PageLeaves (pageOutcome (t .now) (u .now) k (c .now) (x .now)) r (ws .1 .1 .1 .0) (ws .1 .1 .1 .1 .0)
 
   -- what is to be ensured, at some last values
   abbrev Ensured : PageReply → Lasts gz-page.ended κs a → SProp 𝓤

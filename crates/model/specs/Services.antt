@@ -1,13 +1,19 @@
--- The evaluation services as total functions: from all that a call is lent to its reply and the buffer afterwards.
+-- The services as total functions: from all that a call is lent to its reply, and to each lent buffer and cursor as the call
+-- leaves it. Contracts and theorems are both over these definitions.
 use Prim.Native.Nat.{ℕ}
 use mathlib.Core.Path.{_≡_}
-use mathlib.Core.Bool.{Bool}
+use mathlib.Core.Bool.{Bool, cond}
 use mathlib.Core.List.{List}
+use lib.Dec.{eqb}
 use lib.ListN.{length}
 use Rattle.model.specs.declared.Reply.{Reply}
+use Rattle.model.specs.declared.PageReply.{PageReply}
+use Rattle.model.specs.declared.Cursor.{Cursor}
 use Rattle.model.specs.Results.{imageBytes, pairsBytes}
+use Rattle.model.specs.Answers.{answers}
+use Rattle.model.specs.Pages.{Outcome, paged, unpaged}
 use Rattle.model.specs.Refusals.{verdict, written}
-use Rattle.model.specs.Checks.{imageChecks, pairsChecks}
+use Rattle.model.specs.Checks.{imageChecks, pairsChecks, pageChecks}
 
 -- the reply of forwards and of backwards: to a tree, a query, its number of variables and their nodes, a set, and the buffer
 abbrev pub imageReply : List ℕ → List ℕ → ℕ → List ℕ → List ℕ → List ℕ → Reply
@@ -34,3 +40,18 @@ pairsBuffer t q columns nodes table = written (pairsReply t q columns nodes tabl
 abbrev pub PairsLeave : List ℕ → List ℕ → ℕ → List ℕ → List ℕ → Reply → List ℕ → Type 0
 PairsLeave t q columns nodes table r after =
     (r ≡ pairsReply t q columns nodes table) × (after ≡ pairsBuffer t q columns nodes table)
+
+-- the outcome of a page call that is lent a tree, a query, a number of variables, a cursor and a buffer
+unfoldable pub pageOutcome : List ℕ → List ℕ → ℕ → Cursor → List ℕ → Outcome
+pageOutcome t q columns c buffer =
+    cond (eqb (verdict (pageChecks t q columns c (length buffer)) .number) 0)
+    (paged columns (answers t q columns) c buffer)
+    (unpaged (verdict (pageChecks t q columns c (length buffer))) c buffer)
+
+-- the reply of an outcome
+abbrev pub pageReply : Outcome → PageReply
+pageReply o = record { number = o .number; place = o .place; count = o .count; more = o .more }
+
+-- a reply, and a cursor and a buffer as they were left, are those of the outcome
+abbrev pub PageLeaves : Outcome → PageReply → Cursor → List ℕ → Type 0
+PageLeaves o r c buffer = (r ≡ pageReply o) × (c ≡ o .cursor) × (buffer ≡ o .buffer)
