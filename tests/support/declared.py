@@ -5,13 +5,15 @@ import functools
 import os
 import re
 
-from repository import ROOT, crates, files, read
+from repository import ROOT, crates, files, read, uncommented
 
 NAMED = re.compile(r"(?:abbrev |unfoldable )?(pub )?(?:(record|data) (\S+)|(\S+) :(?: |$))")
 CASE = re.compile(r"^ +(\S+) : ", re.M)
-IMPORT = re.compile(r"^(?:ghost |pub )?use (Rattle·\S+?)(?:\.\{([^}]*)\}| as (\S+?))?;?$", re.M)
+IMPORT = re.compile(r"^(?:ghost |pub )?use ([\w·.-]+?)(?:\.\{([^}]*)\}| as (\S+?))?;?$", re.M)
 MODULE = re.compile(r"Rattle·(\w+)(?:·\w+)?\.(specs|proofs)\.(.+)")
-ITEM = re.compile(r'(pub )?(extern "C" )?(fn|struct|enum|type|const) (\w+)')
+ITEM = re.compile(r'(pub )?(?:extern "C" )?(fn|struct|enum|type|const) (\w+)')
+EXPORTED = re.compile(r'\bextern "C" fn\b|^ *#\[.*\b(?:no_mangle|export_name)\b')
+WORD = re.compile(r"[^\s(){};,⌜⌝]+")
 CLAUSE = re.compile(r"^    (requires|ensures)\b", re.M)
 TYPE = re.compile(r"(?:\b(\w+)::)?\b([A-Z]\w*)")
 UNTYPED = re.compile(r'^#\[.*|^ +[A-Z]\w*|"C"', re.M)  # an attribute, the name of a case, the name of a calling convention
@@ -75,18 +77,21 @@ def coded(path, lines):
     found, comment, marks = [], [], []
     for at, line in enumerate(lines):
         named = ITEM.match(line)
+        if EXPORTED.search(line) and line[0] == " ":
+            raise Fault("%s: exported, and not at the top level: '%s'" % (path, line.strip()))
         if line.startswith("//"):
             comment.append(line)
         elif line.startswith("#["):
             marks.append(line)
         else:
-            if named and named[3] == "fn":
+            if named and named[2] == "fn":
                 body = next(i for i in range(at, len(lines)) if lines[i].endswith("{") and lines[i][0] != " ")
-                head = lines[at:body] + [lines[body][:-1].rstrip()] * (lines[body] != "{")
-                found.append(Item(path, named[4], "fn", bool(named[1]), comment, marks + head, exported=bool(named[2])))
+                head = marks + lines[at:body] + [lines[body][:-1].rstrip()] * (lines[body] != "{")
+                exported = any(EXPORTED.search(text) for text in head)
+                found.append(Item(path, named[3], "fn", bool(named[1]), comment, head, exported=exported))
             elif named:
                 end = next(i for i in range(at, len(lines)) if lines[i].endswith((";", "}")) and lines[i][0] != " ")
-                found.append(Item(path, named[4], named[3], bool(named[1]), comment, marks + lines[at : end + 1]))
+                found.append(Item(path, named[3], named[2], bool(named[1]), comment, marks + lines[at : end + 1]))
             comment, marks = [], []
     return found
 
@@ -148,38 +153,52 @@ def scope(path):
     that it uses by another name."""
     names, modules = {}, {}
     for module, listed, alias in IMPORT.findall(read(path)):
-        if alias:
-            modules[alias] = module
-        for name in filter(None, listed.replace(" ", "").split(",")):
+        if not module.startswith("Rattle·"):
+            continue
+        if not listed:
+            modules[alias or module.split(".")[-1]] = module
+        for name in re.findall(r"[^\s,]+", listed):
             names[name] = imported(module, name)
     for item in items(path) if path.endswith(".antt") else []:
         names.update({name: item for name in [item.name] + item.cases})
     return names, modules
 
 
-def uncommented(lines, mark):
-    return "\n".join(line.split(mark, 1)[0] for line in lines)
-
-
 def spoken(text, path):
     """What the words of a definition, a law or a contract stand for, where the repository declares it."""
     names, modules = scope(path)
-    for word in re.findall(r"[^\s(){};,⌜⌝]+", text):
+    for word in WORD.findall(text):
         word = word.rstrip(".")
         alias, _, rest = word.partition(".")
         if word in names:
             yield names[word]
         elif alias in modules and rest:
             yield imported(modules[alias], rest.split(".")[0])
+        elif word.startswith("Rattle·"):
+            yield imported(*word.rsplit(".", 1))
+
+
+def said(item, whole):
+    """The text of a statement, or with its body of the whole declaration, without comments."""
+    lines = [line for head in item.enclosing for line in head] + item.statement + item.body * whole
+    return "\n".join(uncommented("\n".join(lines), "--" if item.path.endswith(".antt") else "//"))
+
+
+def borrowed(item, whole=False):
+    """The names of the toolchain's libraries in a statement or a whole declaration, each with its module."""
+    words = set(WORD.findall(said(item, whole)))
+    for module, listed, alias in IMPORT.findall(read(item.path)):
+        for name in re.findall(r"[^\s,]+", listed):
+            if not module.startswith("Rattle·") and {name, name.strip("_")} & words:
+                yield module, name
 
 
 def cited(item, whole=False):
     """What a statement, or with its body the whole declaration, cites: each once, in the order of first mention."""
-    lines = item.statement + item.body * whole
+    text = said(item, whole)
     if item.path.endswith(".antt"):
-        found = spoken(uncommented([line for head in item.enclosing for line in head] + lines, "--"), item.path)
+        found = spoken(text, item.path)
     else:
-        text = uncommented(lines, "//")
         clauses = CLAUSE.search(text)
         end = clauses.start() if clauses else len(text)
         found = types(text[:end], item.path) + list(spoken(text[end:], item.path))

@@ -6,25 +6,27 @@ import sys
 
 sys.dont_write_bytecode = True
 sys.path.insert(0, os.path.dirname(os.path.abspath(__file__)))
-from declared import Fault, cited, items, paths, reached
+from declared import Fault, borrowed, cited, items, paths, reached
 from repository import ROOT, crates, read, services
 
 DOCUMENT = "docs/STATEMENTS.md"
 TRACED = "docs/TRACEABILITY.md"
-WORD = re.compile(r"`([A-Za-z][\w'′!-]*)`")
-PLACED = re.compile(r"((?:`[\w'′!-]+`(?:, | and )?)+) in `(crates/\w+/(?:src|specs|proofs)/\w+\.\w+)`")
+WORD = re.compile(r"`([^\W\d][^\s`/:]*)`")
+PLACED = re.compile(r"((?:`[^\s`]+`(?:, | and )?)+) in `(crates/\w+/(?:src|specs|proofs)/\w+\.\w+)`")
 
 HEAD = """# Statements
 
 All that is promised, as the source states it: the contract of every service, the contract of every function that C can call, and
 every theorem and law that [TRACEABILITY.md](TRACEABILITY.md) names, in its order. Under each stand the definitions that it cites,
 with their files, and at the end the text of every definition that any of them rests on. Proofs are not shown: the gate checks
-them. What the toolchain's libraries define is not listed either.
+them.
 
 How to read it. In a contract, the name behind `λ` is the result, `now (x .entry)` is what a lent slice or record holds as the call
 begins and `now (x .exit)` what it holds as the call returns; what is lent without `mut` cannot change, and a parameter by value
-stands for itself. The rest of the notation is told at the head of [Sets.antt](../crates/model/specs/Sets.antt). A law that stands
-in a `module` holds for all that the module's head names.
+stands for itself. A law that stands in a `module` holds for all that the module's head names. Most of the notation is told at the
+head of [Sets.antt](../crates/model/specs/Sets.antt). Beside that, `P ↔ Q` says that each of the two follows from the other,
+`P ⊎ Q` that one of them holds; `Unit` always holds and `⊥` never. `map f l` has f of each element of l, `replicate n x` is x n
+times, and `ptr r .0` and `ptr r .1` are the block of memory that a slice r points into, and where.
 
 This file is written from the source by `tests/support/statements.py`, and a test of the gate fails where the two differ. So for
 every change the diff of this file is the list of the promises that moved: run the script, and read the diff.
@@ -60,13 +62,12 @@ def the_laws():
     meant = {(name, path) for names, path in PLACED.findall(text) for name in WORD.findall(names)}
     found = []
     for name in dict.fromkeys(WORD.findall(text)):
-        placed = [path for meant_name, path in meant if meant_name == name]
-        here = [item for item in laws.get(name, []) if not placed or item.path in placed]
-        if not here and not known & {name} or not set(placed) <= others.get(name, set()) | {item.path for item in here}:
+        here, placed = laws.get(name, []), {path for meant_name, path in meant if meant_name == name}
+        if placed - others.get(name, set()) - {item.path for item in here} or not here and name not in known:
             raise Fault("%s: %s is not declared %s" % (TRACED, name, "in " + " or ".join(placed) if placed else "anywhere"))
         if not placed and len(here) + (name in known) > 1:
             raise Fault("%s: %s is declared more than once; say which is meant, as in NAME in FILE" % (TRACED, name))
-        found += here
+        found += [item for item in here if not placed or item.path in placed]
     return found
 
 
@@ -87,7 +88,7 @@ def shown(item):
         by_file.setdefault(i.path, []).append("`%s`" % i.name)
     files = ["- %s in %s\n" % (", ".join(names), link(path)) for path, names in by_file.items()]
     heads = [line for head in item.enclosing for line in head]
-    return "%s\nIt cites\n\n%s" % (fenced(heads + item.comment + item.statement), "".join(files))
+    return "%s\nIt cites\n\n%s" % (fenced(heads + item.comment + item.statement), "".join(files) or "- nothing of this repository\n")
 
 
 def whole(path, wanted):
@@ -104,6 +105,15 @@ def whole(path, wanted):
     return "### %s\n\n%s" % (link(path), fenced(lines))
 
 
+def libraries(statements, wanted):
+    """The names of the toolchain's libraries in all that is shown, by their modules."""
+    found = {pair for item in statements for pair in borrowed(item)} | {pair for item in wanted for pair in borrowed(item, whole=True)}
+    modules = sorted({module for module, _ in found})
+    names = lambda module: ", ".join("`%s`" % name for m, name in sorted(found) if m == module)
+    lines = ["- `%s`: %s\n" % (module, names(module)) for module in modules]
+    return "### Of the toolchain's libraries\n\n%s" % "".join(lines)
+
+
 def written():
     """The document."""
     named, laws = list(the_services()), the_laws()
@@ -117,11 +127,12 @@ def written():
     for title, group, name in groups:
         parts.append("## %s\n" % title)
         parts += ["### %s\n\n*%s*\n\n%s" % (name(i), link(i.path), shown(i)) for i in group]
-    wanted = set(reached(named + exported + laws))
+    statements = named + exported + laws
+    wanted = set(reached(statements))
     parts.append("## Definitions\n")
     order = [path for crate in crates() for folder in ("src", "specs", "proofs") for path in paths(crate, folder)]
     parts += [whole(path, wanted) for path in order if any(i.path == path for i in wanted)]
-    return "\n".join(parts)
+    return "\n".join(parts + [libraries(statements, wanted)])
 
 
 if __name__ == "__main__":
