@@ -55,7 +55,7 @@ class Contract:
         """A function's signature and clauses, the definitions of specs/ that its file uses, and the fields of what it returns."""
         self.text, self.definitions, self.fields = "\n".join(lines), definitions, fields
         found, self.ensures = SIGNATURE.search(self.text), ENSURES.search(self.text)
-        self.parameters = dict(re.findall(r"(\w+): ([^,]+)", found[1]))
+        self.parameters, self.replies = dict(re.findall(r"(\w+): ([^,]+)", found[1])), bool(found[2])
         self.result = self.ensures and self.ensures[1]
 
     def outcome(self, part):
@@ -93,7 +93,8 @@ class Contract:
             return
         settling = [(c, self.settled(c)) for c in clauses(term(self.ensures[2]))]
         values = {value for _, some in settling for value in some}
-        if (self.result, None) not in values and not (self.fields and {(self.result, f) for f in self.fields} <= values):
+        parts = {(self.result, f) for f in self.fields}
+        if self.replies and (self.result, None) not in values and not (parts and parts <= values):
             yield "has no clause that gives its reply by a definition of specs/"
         for name, kind in self.parameters.items():
             if re.match(r"&('\w+ )?mut\b", kind) and (name, None) not in values:
