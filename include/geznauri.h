@@ -8,15 +8,19 @@
  *
  *     cc -I include program.c target/staticlib/libterminal.a
  *
+ * The archive defines the functions of section 9 and no other global symbol. It needs two functions of the C library, which
+ * compilers call of their own accord: memcpy, memset. It has less than 40 KiB of code and constants, and has no variables.
+ *
  * Contents:  1 For every call   2 Tree table   3 Query table   4 Node sets and relations   5 Answers, pages, cursors
  *            6 Name tables   7 Numbers of refusal   8 Types   9 Functions
  *
  *
  * 1  FOR EVERY CALL
  *
- * Any contents are taken. Each function checks all that it is lent, in every call; what it cannot take it refuses by number
- * and place (section 7). A refused call writes nothing, but for gz_name, which then hands back an empty part. There are no
- * errors of any other kind: every call returns, sets no errno, takes no memory from the heap and makes no system call.
+ * Any contents are taken: every number and byte that is lent may hold any value. Each function checks all that it is lent, in
+ * every call; what it cannot take it refuses by number and place (section 7). A refused call writes nothing, but for gz_name,
+ * which then hands back an empty part. There are no errors of any other kind: every call returns, sets no errno, takes no memory
+ * from the heap and makes no system call.
  *
  * Slices. A pointer and a length behind it are one slice. The length is in elements, not in bytes. The pointer is valid and
  * aligned for that many elements; where the length is 0 it is neither read nor written through, and may be NULL. A const
@@ -28,8 +32,9 @@
  * Threads. No function keeps anything between calls, and there is no global state: calls may run at the same time on any
  * number of threads, with the same tables too, so long as each has its own buffer and cursor.
  *
- * Stack. Less than 8 KiB for a query of one level, and less than 4 KiB for each further level of its nesting; there are 64
- * levels at most, so that no call takes 260 KiB.
+ * Stack. gz_check_tree, gz_check_query and gz_name take less than 1 KiB. The others take less than 8 KiB for a query of one
+ * level, and less than 4 KiB for each further level of its nesting (section 3); there are 64 levels at most, so that no call
+ * takes 260 KiB.
  *
  * Everything is counted from 0. Numbers of tables are in the machine's own byte order.
  *
@@ -59,6 +64,9 @@
  * An entry is a path (kinds 0 to 7), a set of pairs (x, y) of nodes, read 'from x to y'; or a node expression (kinds 8 to
  * 12), which holds at a node x or does not. 'path' and 'expr' below are operands: numbers of earlier entries of that sort.
  * Every entry but the last is an operand exactly once. A field with a dash must be 0.
+ *
+ * Levels of nesting: an entry without operands (kinds 0, 6 and 12) has one level, and every other entry has one level more than
+ * the operand that has the most. A query has the levels of its last entry.
  *
  *     kind                left       right   tag     meaning
  *      0  step            axis       -       test    y is on the axis from x, and y passes the test
@@ -123,7 +131,7 @@
  * call writes the first answers after the cursor's row (from the first answer on where the cursor is fresh), as many as the
  * buffer has whole room for, and moves the cursor to the last row written. A caller that goes on until `more` is false has
  * read every answer once, in order, if each accepted call was lent the same tree, query and columns; refused calls between
- * do no harm. A caller may also set the cursor: begun to true, and its first `columns` numbers to any nodes, answer or not.
+ * do no harm. A caller may also set the cursor: begun to 1, and its first `columns` numbers to any nodes, answer or not.
  *
  *     gz_cursor cursor = {0};
  *     uint16_t rows[64];
@@ -182,6 +190,12 @@
 #include <stddef.h>
 #include <stdint.h>
 
+/* The version of this header and of the archive that it describes. GZ_VERSION_MAJOR is counted up, and MINOR set to 0, where a
+   program that was written to the header before may break: another reply to the same call, a refusal of what was accepted or the
+   reverse, another type, size or name. GZ_VERSION_MINOR is counted up where something is added and all else is as it was. */
+#define GZ_VERSION_MAJOR 1
+#define GZ_VERSION_MINOR 0
+
 #ifdef __cplusplus
 extern "C" {
 #endif
@@ -202,10 +216,10 @@ typedef struct {
 } gz_page_reply;
 
 /* Where a caller stands in the answers of a query: whether it has begun, and the last row given, one node for each variable.
-   All zero is a fresh cursor. begun is a proper bool, 0 or 1. While it is false, last may hold anything; numbers of last at or
-   above the number of variables may always hold anything, and are kept. */
+   All zero is a fresh cursor. Every byte of begun has a meaning: 0 is fresh, and any other byte is begun. While it is 0, last
+   may hold anything; numbers of last at or above the number of variables may always hold anything, and are kept. */
 typedef struct {
-    bool begun;
+    uint8_t begun;
     uint16_t last[3];
 } gz_cursor;
 
@@ -228,7 +242,7 @@ gz_reply gz_check_query(const uint16_t *query, size_t query_len, uint16_t column
    Accepted, the first n bytes of `to` are the image, and all later bytes are as they were; refused, all of `to` is.
    A query without intersect and except takes time in proportion to its entries times n, however it nests; intersect and
    except evaluate their operands once for each start node; where one stands inside an operand of another, behind a
-   composition or in a filter, each such level takes up to n times as long. */
+   composition or in a filter, each such one takes up to n times as long. */
 gz_reply gz_forwards(const uint16_t *tree, size_t tree_len, const uint16_t *query, size_t query_len, uint16_t columns,
                      const uint16_t *nodes, size_t nodes_len, const uint8_t *from, size_t from_len, uint8_t *to, size_t to_len);
 
@@ -246,8 +260,8 @@ gz_reply gz_pairs(const uint16_t *tree, size_t tree_len, const uint16_t *query, 
    17 and 20; 17 looks at the first `columns` numbers of a begun cursor only.
    Accepted, count rows stand at the front of `rows`, `columns` numbers each: the first answers after the cursor's row, as
    many as there are and as there is whole room for; all later numbers are as they were. more is true exactly if there is an
-   answer after them. The cursor is begun and at the last row written, its numbers at or above columns as they were; where
-   count is 0 all of it is as it was. Refused, the cursor and all of `rows` are as they were.
+   answer after them. The cursor is at the last row written, with begun 1, its numbers at or above columns as they were; where
+   count is 0 all of it is as it was, begun too. Refused, the cursor and all of `rows` are as they were.
    One evaluation for each row tried, at most n to the power of columns. */
 gz_page_reply gz_page(const uint16_t *tree, size_t tree_len, const uint16_t *query, size_t query_len, uint16_t columns,
                       gz_cursor *cursor, uint16_t *rows, size_t rows_len);

@@ -12,6 +12,9 @@ _Static_assert(offsetof(gz_page_reply, count) == 8 && offsetof(gz_page_reply, mo
 _Static_assert(sizeof(gz_cursor) == 8 && offsetof(gz_cursor, begun) == 0 && offsetof(gz_cursor, last) == 2, "gz_cursor");
 _Static_assert(sizeof(gz_part) == 16 && offsetof(gz_part, start) == 0 && offsetof(gz_part, length) == 8, "gz_part");
 _Static_assert(sizeof(bool) == 1 && sizeof(size_t) == 8, "bool and size_t");
+#if GZ_VERSION_MAJOR != 1 || !defined(GZ_VERSION_MINOR)
+#error "this program is written to version 1 of the header"
+#endif
 
 #define PATTERN 0xA5
 #define MARGIN 16 /* elements of the pattern before and behind a buffer */
@@ -253,12 +256,13 @@ static void page(const char *what, struct lent l, gz_cursor *cursor, size_t room
 }
 #define ACCEPTED(count, more) (gz_page_reply){0, 0, count, more}
 #define REFUSED(number, place) (gz_page_reply){number, place, 0, false}
-#define AT(a, b, c) (gz_cursor){true, {a, b, c}}
+#define CURSOR(begun, a, b, c) (gz_cursor){begun, {a, b, c}}
+#define AT(a, b, c) CURSOR(1, a, b, c)
 
 static void pages(void)
 {
     struct lent bays = LENT(SLICE(pallets), 2, NOTHING);
-    gz_cursor cursor = {false, {7, 8, 900}};
+    gz_cursor cursor = CURSOR(0, 7, 8, 900);
     page("rows 1 and 2", bays, &cursor, 5, ACCEPTED(2, true), NUMBERS(1, 2, 1, 3), AT(1, 3, 900));
     page("no variables", LENT(SLICE(pallets), 0, NOTHING), &cursor, 5, REFUSED(9, 0), NOTHING, AT(1, 3, 900));
     page("room for no row", bays, &cursor, 1, REFUSED(20, 0), NOTHING, AT(1, 3, 900));
@@ -276,6 +280,21 @@ static void pages(void)
     page("half an entry", ON(SLICE(warehouse), pallets, 26, 2, NOTHING), &cursor, 4, REFUSED(8, 0), NOTHING, AT(6, 6, 0));
     page("4 variables", LENT(SLICE(pallets), 4, NOTHING), &cursor, 8, REFUSED(9, 0), NOTHING, AT(6, 6, 0));
     page("an unknown variable", LENT(SLICE(pallets), 1, NOTHING), &cursor, 8, REFUSED(11, 4), NOTHING, AT(6, 6, 0));
+
+    /* every byte but 0 is a begun cursor: it goes on like 1, is checked like 1, and is kept where no row is written */
+    for (uint16_t byte = 1; byte < 256; byte++) {
+        cursor = CURSOR((uint8_t)byte, 1, 2, 900);
+        page("begun, room for no row", bays, &cursor, 1, REFUSED(20, 0), NOTHING, CURSOR((uint8_t)byte, 1, 2, 900));
+        page("begun, no tree", ON(NOTHING, SLICE(pallets), 2, NOTHING), &cursor, 4, REFUSED(5, 0), NOTHING, CURSOR((uint8_t)byte, 1, 2, 900));
+        page("begun, a third variable past the nodes", LENT(SLICE(pallets), 3, NOTHING), &cursor, 3, REFUSED(17, 2), NOTHING, CURSOR((uint8_t)byte, 1, 2, 900));
+        page("begun, the next row", bays, &cursor, 2, ACCEPTED(1, true), NUMBERS(1, 3), AT(1, 3, 900));
+        cursor = CURSOR((uint8_t)byte, 1, 3, 900);
+        page("begun, the last row", bays, &cursor, 4, ACCEPTED(1, false), NUMBERS(4, 5), AT(4, 5, 900));
+        cursor = CURSOR((uint8_t)byte, 4, 5, 900);
+        page("begun, no more rows", bays, &cursor, 4, ACCEPTED(0, false), NOTHING, CURSOR((uint8_t)byte, 4, 5, 900));
+    }
+    cursor = CURSOR(0, 900, 900, 900);
+    page("fresh, no row", LENT(NUMBERS(0, 0, 0, 9), 2, NOTHING), &cursor, 4, ACCEPTED(0, false), NOTHING, CURSOR(0, 900, 900, 900));
 
     /* self::1 union child::2[. is $0], and with self::9 */
     cursor = (gz_cursor){0};

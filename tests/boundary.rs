@@ -22,7 +22,7 @@ struct PageReply {
 #[repr(C)]
 #[derive(Clone, Copy, Debug, PartialEq)]
 struct Cursor {
-    begun: bool,
+    begun: u8,
     last: [u16; 3],
 }
 
@@ -143,14 +143,26 @@ fn main() {
     children[36..].fill(7);
     assert_eq!(table, children);
 
-    let mut cursor = Cursor { begun: false, last: [0, 0, 9] };
+    let mut cursor = Cursor { begun: 0, last: [0, 0, 9] };
     let mut rows = [7; 5];
     assert_eq!(page(&PALLETS, 2, &mut cursor, &mut rows), PageReply { number: 0, place: 0, count: 2, more: true });
-    assert_eq!((rows, cursor), ([1, 2, 1, 3, 7], Cursor { begun: true, last: [1, 3, 9] }));
+    assert_eq!((rows, cursor), ([1, 2, 1, 3, 7], Cursor { begun: 1, last: [1, 3, 9] }));
     assert_eq!(page(&PALLETS, 0, &mut cursor, &mut rows), PageReply { number: 9, place: 0, count: 0, more: false });
-    assert_eq!((rows, cursor), ([1, 2, 1, 3, 7], Cursor { begun: true, last: [1, 3, 9] }));
+    assert_eq!((rows, cursor), ([1, 2, 1, 3, 7], Cursor { begun: 1, last: [1, 3, 9] }));
     assert_eq!(page(&PALLETS, 2, &mut cursor, &mut rows), PageReply { number: 0, place: 0, count: 1, more: false });
-    assert_eq!((rows, cursor), ([4, 5, 1, 3, 7], Cursor { begun: true, last: [4, 5, 9] }));
+    assert_eq!((rows, cursor), ([4, 5, 1, 3, 7], Cursor { begun: 1, last: [4, 5, 9] }));
+
+    // every byte but 0 is a begun cursor, and is kept where no row is written
+    for begun in [1, 2, 4, 130, 255] {
+        cursor = Cursor { begun, last: [1, 3, 9] };
+        assert_eq!(page(&PALLETS, 2, &mut cursor, &mut rows[..1]), PageReply { number: 20, place: 0, count: 0, more: false });
+        assert_eq!(cursor, Cursor { begun, last: [1, 3, 9] });
+        assert_eq!(page(&PALLETS, 2, &mut cursor, &mut rows), PageReply { number: 0, place: 0, count: 1, more: false });
+        assert_eq!((&rows[..2], cursor), (&[4, 5][..], Cursor { begun: 1, last: [4, 5, 9] }));
+        cursor.begun = begun;
+        assert_eq!(page(&PALLETS, 2, &mut cursor, &mut rows), PageReply { number: 0, place: 0, count: 0, more: false });
+        assert_eq!(cursor, Cursor { begun, last: [4, 5, 9] });
+    }
 
     let (house, site): (&[u8], &[u8]) = (b"\x05store\x04hall\x03bay", b"\x06pallet");
     assert_eq!(name(house, site, 1), (ACCEPTED, &b"hall"[..]));

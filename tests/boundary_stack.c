@@ -1,7 +1,7 @@
-/* The stack that a call takes is as include/geznauri.h has it: less than 8 KiB for a query of one level, and less than 4 KiB
-   for each further level of nesting. Calls run on a stack that was filled with a pattern; how much of the pattern is gone,
-   less what a thread takes that calls nothing, is what the call took. The tree has one node: frames are of one size for all
-   trees. */
+/* The stack that a call takes is as include/geznauri.h has it: less than 1 KiB where no query is evaluated, less than 8 KiB for a
+   query of one level, and less than 4 KiB for each further level of nesting. Calls run on a stack that was filled with a
+   pattern; how much of the pattern is gone, less what a thread takes that calls nothing, is what the call took. The tree has one
+   node: frames are of one size for all trees. */
 #define _GNU_SOURCE
 #include "geznauri.h"
 #include <pthread.h>
@@ -35,7 +35,17 @@ static void accepted(uint16_t number)
     }
 }
 
-static void *all(void *unused)
+static void *checks(void *unused)
+{
+    static const uint8_t house[] = "\3bay", site[] = "\6pallet";
+    gz_part name;
+    accepted(gz_check_tree(tree, 2).number);
+    accepted(gz_check_query(query, 4 * entries, 1).number);
+    accepted(gz_name(house, 4, site, 7, 1, &name).number);
+    return unused;
+}
+
+static void *evaluations(void *unused)
 {
     uint8_t from[1] = {1}, to[1];
     uint16_t nodes[1] = {0}, rows[1];
@@ -68,11 +78,21 @@ static size_t taken(void *(*run)(void *))
 
 static int wrong;
 
-static void at_most(const char *what, size_t levels)
+/* The levels of the query, by the header's words: 1 for an entry without operands, and else one more than those of the operand
+   that has the most. */
+static size_t levels(size_t e)
 {
-    size_t took = taken(all) - taken(nothing);
-    printf("%s, %zu levels: %zu bytes\n", what, levels, took);
-    if (took >= (levels + 1) * 4096)
+    const uint16_t *f = query + 4 * e;
+    bool left = f[0] != 0 && f[0] != 6 && f[0] != 12, right = (1 <= f[0] && f[0] <= 5) || f[0] == 10 || f[0] == 11;
+    size_t a = left ? levels(f[1]) : 0, b = right ? levels(f[2]) : 0;
+    return 1 + (a < b ? b : a);
+}
+
+static void at_most(const char *what, size_t expected)
+{
+    size_t took = taken(evaluations) - taken(nothing), checked = taken(checks) - taken(nothing);
+    printf("%s, %zu levels: %zu bytes, and %zu for the checks\n", what, expected, took, checked);
+    if (levels(entries - 1) != expected || took >= (expected + 1) * 4096 || checked >= 1024)
         wrong = 1;
 }
 
@@ -103,7 +123,7 @@ int main(void)
     entry(5, 62, 61, 0);
     at_most("not", 63);
 
-    /* paths in filters: each level is a filter and a 'some' */
+    /* paths in filters: each filter and its 'some' are two levels */
     entries = 0;
     entry(0, 0, 0, 65535);
     for (uint16_t e = 1; e + 3 <= 64; e += 3) {

@@ -16,10 +16,12 @@ bytes (x ∷ xs) = x % 256 ∷ x / 256 ∷ bytes xs
 pub teaching : List ℕ
 teaching = bytes (warehouse ++ (bayAndPallet ++ (92 ∷ 12 ∷ 68 ∷ 28 ∷ 2 ∷ 20564 ∷ [])))
 
+-- the teaching job is accepted, with 12 numbers of its tree from byte 0 on, 28 of its query from byte 24 on, and two variables
 pub teaching-job : jobOf teaching ≡ record { reply = reply 0 0; tree = record { start = 0; count = 12 }; query = record { start = 24; count = 28 }; columns = 2 }
 unfolding teaching bytes warehouse bayAndPallet jobOf fileChecks partChecks outside overlap any verdict numberAt
 teaching-job = refl
 
+-- the numbers of its two parts are the warehouse and the query that it was made of
 pub teaching-tables : (numbers teaching 0 12 ≡ warehouse) × (numbers teaching 24 28 ≡ bayAndPallet)
 unfolding teaching bytes warehouse bayAndPallet numbers numberAt
 teaching-tables = (refl, refl)

@@ -38,9 +38,11 @@ value-below (suc k) n h = go (seen (ltb n 10)) (value-below k (n / 10))
         let t = ltb-false n 10 e in
         rw (last-digit n t, value-last 0 (decimal (n / 10)) (48 + n % 10), ih (omega arith)) (omega arith)
 
+-- a number is what its decimal digits say
 pub decimal-value : (n : ℕ) → valueOn 0 (decimal n) ≡ n
 decimal-value n = value-below (suc n) n (omega arith)
 
+-- the lines of the rows at the front of a buffer are the lines of each row in turn
 pub lines-of-rows : (k : ℕ) (rs : List Row) (rest : List ℕ) → Wide k rs → rowLines k (length rs) (flat rs ++ rest) ≡ flat (map rowLine rs)
 unfolding rowLines
 lines-of-rows k [] rest e = refl
@@ -48,12 +50,13 @@ lines-of-rows k (r ∷ rs) rest e =
     rw (append-assoc r (flat rs) rest, take-at r (flat rs ++ rest) k (e r (inl refl)), drop-at r (flat rs ++ rest) k (e r (inl refl)))
     (ap (λ (l : List ℕ). rowLine r ++ l) (lines-of-rows k rs rest (λ s i. e s (inr i))))
 
--- the lines of the teaching job, and the line of a refusal
+-- the lines of the teaching job
 pub teaching-lines : rowLines 2 3 (1 ∷ 2 ∷ 1 ∷ 3 ∷ 4 ∷ 5 ∷ []) ++ endLine 3
     ≡ 49 ∷ 32 ∷ 50 ∷ 10 ∷ 49 ∷ 32 ∷ 51 ∷ 10 ∷ 52 ∷ 32 ∷ 53 ∷ 10 ∷ 101 ∷ 110 ∷ 100 ∷ 32 ∷ 51 ∷ 10 ∷ []
 unfolding rowLines rowLine field decimal digits endLine
 teaching-lines = refl
 
+-- the line of refusal 6 at place 1
 pub refusal-line : refusedLine 6 1 ≡ 114 ∷ 101 ∷ 102 ∷ 117 ∷ 115 ∷ 101 ∷ 100 ∷ 32 ∷ 54 ∷ 32 ∷ 49 ∷ 10 ∷ []
 unfolding refusedLine field decimal digits
 refusal-line = refl

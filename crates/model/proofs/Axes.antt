@@ -75,12 +75,12 @@ descendant-after t s x y l h = descendant-lower t y (sound-falling t y s l) x y 
 pub eqb-comm : (x y : ℕ) → eqb x y ≡ eqb y x
 eqb-comm x y = bool-ext (eqb x y) (eqb y x) (λ p. eq-eqb y x (sym (eqb-true x y p))) (λ p. eq-eqb x y (sym (eqb-true y x p)))
 
--- for the reader: self is its own converse, and each even axis is the converse of the odd one beside it
-
+-- for the reader: self is its own converse
 pub self-converse : (t : Tree) (x y : ℕ) → axis t 0 x y ≡ axis t 0 y x
 unfolding axis
 self-converse t x y = eqb-comm x y
 
+-- for the reader: each even axis but self is the converse of the odd one before it
 pub axis-converse : (t : Tree) (h x y : ℕ) → h < 6 → axis t (2 * h + 2) x y ≡ axis t (2 * h + 1) y x
 unfolding axis following preceding descendantOrSelf ancestorOrSelf
 axis-converse t zero x y l = refl
@@ -91,12 +91,11 @@ axis-converse t (suc (suc (suc (suc zero)))) x y l = refl
 axis-converse t (suc (suc (suc (suc (suc zero))))) x y l = rw (eqb-comm x y)
 axis-converse t (suc (suc (suc (suc (suc (suc h)))))) x y l = absurd (not-suc-le-zero (let g : 1 ≤ 0 = omega arith in g))
 
--- for the reader: from every node of a sound tree, each node is on exactly one of self, ancestor, descendant, following, preceding
-
 module _ (t : Tree) (s : Sound t) where
   not-down : (x y : ℕ) → y < t .size → y ≤ x → descendant t x y ≡ false
   not-down x y l h = not-yes (descendant t x y) (λ p. absurd (not-suc-le-zero (let w : x < y = descendant-after t s x y l p in let g : 1 ≤ 0 = omega arith in g)))
 
+  -- from every node of a sound tree, each node is on exactly one of self, ancestor, descendant, following, preceding
   pub five-axes : (x y : ℕ) → x < t .size → y < t .size
       → bit (self t x y) + (bit (ancestor t x y) + (bit (descendant t x y) + (bit (following t x y) + bit (preceding t x y)))) ≡ 1
   unfolding following preceding

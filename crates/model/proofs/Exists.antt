@@ -135,8 +135,7 @@ lowest-found n f l = go (any n f) refl
     go true p = p
     go false p = absurd (let w : lowest n f ≡ n = lowest-none n f p in omega arith)
 
--- for the reader: where some place is bad, the lowest one is bad and none before it is
-
+-- for the reader: where some place is bad, the lowest one is bad
 pub lowest-bad : (n : ℕ) (f : ℕ → Bool) → any n f ≡ true → f (lowest n f) ≡ true
 unfolding lowest any
 lowest-bad zero f h = no-yes refl h
@@ -146,6 +145,7 @@ lowest-bad (suc n) f h = go (any n f) refl (lowest-bad n f)
     go true p ih = rw p (ih p)
     go false p ih = let q : f n ≡ true = ⊎-elim (λ w. w) (λ w. no-yes p w) (or-cases (f n) (any n f) h) in rw (p, q) q
 
+-- for the reader: no place before the lowest one is bad
 pub none-lower : (n : ℕ) (f : ℕ → Bool) → any (lowest n f) f ≡ false
 unfolding lowest any
 none-lower zero f = refl

@@ -34,6 +34,7 @@ unfolding malformedFrom
 pass-name [] t = refl
 pass-name (b ∷ bs) t = pass-name bs t
 
+-- a run of names of 1 to 32 bytes each is not malformed
 pub run-sound : (ws : List (List ℕ)) → sized ws ≡ true → malformed (run ws) ≡ false
 unfolding malformedFrom run sized
 run-sound [] h = refl
@@ -52,6 +53,7 @@ run-past (b ∷ bs) zero h =
     (take b bs ∷ ws, both-yes {a = not (badLength (length (take b bs)))} (rw (l, good)) ok, rw (l, sym e, take-append-drop b bs))
 run-past (b ∷ bs) (suc rest) h = run-past bs rest h
 
+-- a table that is not malformed is such a run
 pub sound-run : (t : List ℕ) → malformed t ≡ false → (ws : List (List ℕ)) × (sized ws ≡ true) × (t ≡ run ws)
 sound-run t h = run-past t 0 h
 
@@ -79,5 +81,6 @@ names-behind k a (w ∷ ws) =
         rw (sym (append-assoc a (length w ∷ []) (w ++ run ws)), drop-at (a ++ (length w ∷ [])) (w ++ run ws) (suc (length a)) one-more)
         (take-at w (run ws) (length w) refl)
 
+-- the names that are read from a run are those that it was made of, byte for byte
 pub names-of-run : (k : Table) (ws : List (List ℕ)) → map (bytes (run ws)) (names k (run ws)) ≡ ws
 names-of-run k ws = names-behind k [] ws

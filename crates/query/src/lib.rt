@@ -316,7 +316,7 @@ pub fn check_query_for(query: &[u16], least: usize, columns: usize) -> model::Re
     check_entries(query, columns)
 }
 
-// The same for a service that takes any number of variables up to 3.
+// The verdict on a query table with its number of variables, any up to 3.
 pub fn check_query(query: &[u16], columns: usize) -> model::Reply
     ensures { λ r. ⌜ r ≡ verdict (queryChecks (now (query .entry)) 0 columns) ⌝ }
 {
