@@ -21,7 +21,7 @@ use Rattle.answers.proofs.Odometer.{keep-all}
 
 -- what stands after a row of a rising list
 
-in-at : (xs : List Row) (i : ℕ) (d : Row) → i < length xs → In (getD xs i d) xs
+pub in-at : (xs : List Row) (i : ℕ) (d : Row) → i < length xs → In (getD xs i d) xs
 in-at [] i d l = absurd (not-suc-le-zero l)
 in-at (x ∷ xs) zero d l = _⊎_.inl refl
 in-at (x ∷ xs) (suc i) d l = _⊎_.inr (in-at xs i d (le-of-suc-le-suc l))
@@ -120,7 +120,7 @@ moved-begun : (c : Cursor) (r : Row) (rs : List Row) → hasBegun (moved c (r �
 moved-begun c r [] = refl
 moved-begun c r (s ∷ ss) = moved-begun (atRow c r) s ss
 
-moved-row : (k : ℕ) (c : Cursor) (r : Row) (rs : List Row) → Wide k (r ∷ rs) → k ≤ 3
+pub moved-row : (k : ℕ) (c : Cursor) (r : Row) (rs : List Row) → Wide k (r ∷ rs) → k ≤ 3
     → rowOf k (moved c (r ∷ rs)) ≡ getD (r ∷ rs) (length rs) []
 moved-row k c r [] h l = row-at k c r (h r (_⊎_.inl refl)) l
 moved-row k c r (s ∷ ss) h l = moved-row k (atRow c r) s ss (λ x i. h x (_⊎_.inr i)) l
@@ -134,7 +134,7 @@ module _ (k : ℕ) (L : List Row) (rising : Rising L) (wide : Wide k L) (small :
   past : (i : ℕ) → length L ≤ i → drop i L ≡ []
   past i h = drop-of-length-le L h
 
-  drop-same : (m r : ℕ) → drop (m + length (take r (drop m L))) L ≡ drop (m + r) L
+  pub drop-same : (m r : ℕ) → drop (m + length (take r (drop m L))) L ≡ drop (m + r) L
   drop-same m r = go (decLe (m + r) (length L))
     where
       long : length (take r (drop m L)) ≡ min r (length L - m)
@@ -144,7 +144,8 @@ module _ (k : ℕ) (L : List Row) (rising : Rising L) (wide : Wide k L) (small :
       go (yes h) = let e : length (take r (drop m L)) ≡ r = omega (arith, long) in rw e
       go (no h) = past (m + length (take r (drop m L))) (omega (arith, long)) ∙ sym (past (m + r) (omega arith))
 
-  after-rows : (c : Cursor) (m r : ℕ) (rows : List Row) → take r (drop m L) ≡ rows → after k L c ≡ drop m L
+  -- the cursor at the last of some rows, as many as r where there are so many: the rows after it are the others
+  pub after-rows : (c : Cursor) (m r : ℕ) (rows : List Row) → take r (drop m L) ≡ rows → after k L c ≡ drop m L
       → after k L (moved c rows) ≡ drop (m + length rows) L
   after-rows c m r [] e h = h ∙ ap (λ (i : ℕ). drop i L) (sym (add-zero m))
   after-rows c m r (x ∷ xs) e h =

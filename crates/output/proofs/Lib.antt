@@ -1,1 +1,4 @@
 pub mod Page
+pub mod Count
+pub mod Verdict
+pub mod Joined
