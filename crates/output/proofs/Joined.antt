@@ -72,30 +72,40 @@ module _ (file : List ℕ) where
   below r i = answers-member T (queryIn file) k r .0 i .1
 
   -- m rows of an accepted file are written, and the cursor stands after them
-  record Stands (at : Position) (m : ℕ) : Type 0 where
-    accepted : jobVerdict file .number ≡ 0
-    within : m ≤ length A
-    total : at .total ≡ m
-    next : after k A (at .cursor) ≡ drop m A
-    nodes : hasBegun (at .cursor) ≡ true → Below (sizeOf T) (rowOf k (at .cursor))
+  pub record Stands (at : Position) (m : ℕ) : Type 0 where
+    pub accepted : jobVerdict file .number ≡ 0
+    pub within : m ≤ length A
+    pub total : at .total ≡ m
+    pub next : after k A (at .cursor) ≡ drop m A
+    pub nodes : hasBegun (at .cursor) ≡ true → Below (sizeOf T) (rowOf k (at .cursor))
 
-  -- from a position on, so many bytes are to come, in at most so many pieces besides the last
-  data At (at : Position) (rest : List ℕ) (pieces : ℕ) : Type 0 where
-    refused : (jobVerdict file .number ≡ 0 → ⊥) → at .listed ≡ false → rest ≡ refusedLine (jobVerdict file .number) (jobVerdict file .place) → At at rest pieces
-    listing : (m : ℕ) → Stands at m → at .listed ≡ false → rest ≡ linesOf (drop m A) ++ endLine (length A) → length A - m < pieces → At at rest pieces
-    ended : jobVerdict file ≡ reply 0 0 → at .total ≡ length A → at .listed ≡ true → rest ≡ endLine (length A) → At at rest pieces
+  -- from a position on, so many bytes are to come
+  pub data At (at : Position) (rest : List ℕ) : Type 0 where
+    refused : (jobVerdict file .number ≡ 0 → ⊥) → at .listed ≡ false → rest ≡ refusedLine (jobVerdict file .number) (jobVerdict file .place) → At at rest
+    listing : (m : ℕ) → Stands at m → at .listed ≡ false → rest ≡ linesOf (drop m A) ++ endLine (length A) → At at rest
+    ended : jobVerdict file ≡ reply 0 0 → at .total ≡ length A → at .listed ≡ true → rest ≡ endLine (length A) → At at rest
+
+  -- how many pieces are to come at most, besides the last
+  abbrev pub left : Position → ℕ
+  left at = cond (at .listed) 0 (length A - at .total + 1)
+
+  left-listing : (at : Position) (m : ℕ) → at .listed ≡ false → at .total ≡ m → left at ≡ length A - m + 1
+  left-listing at m l t = ap (λ (b : Bool). cond b 0 (length A - at .total + 1)) l ∙ ap (λ (n : ℕ). length A - n + 1) t
+
+  left-ended : (at : Position) → at .listed ≡ true → left at ≡ 0
+  left-ended at l = ap (λ (b : Bool). cond b 0 (length A - at .total + 1)) l
 
   -- some bytes are to come
-  some-left : (at : Position) (rest : List ℕ) (pieces : ℕ) → At at rest pieces → 0 < length rest
-  some-left at rest pieces (refused z l e) = rw e (refused-some (jobVerdict file .number) (jobVerdict file .place))
-  some-left at rest pieces (listing m s l e p) =
+  some-left : (at : Position) (rest : List ℕ) → At at rest → 0 < length rest
+  some-left at rest (refused z l e) = rw e (refused-some (jobVerdict file .number) (jobVerdict file .place))
+  some-left at rest (listing m s l e) =
       rw e (omega (arith, length-append (linesOf (drop m A)) (endLine (length A)), end-some (length A)))
-  some-left at rest pieces (ended z t l e) = rw e (end-some (length A))
+  some-left at rest (ended z t l e) = rw e (end-some (length A))
 
   -- what a piece does: it is the last, and all that was to come; or the rest is still to come after it
-  data Goes (rest : List ℕ) (pieces : ℕ) (o : PieceOutcome) : Type 0 where
-    lasts : o .last ≡ true → o .bytes ≡ rest → o .reply ≡ jobVerdict file → Goes rest pieces o
-    goes-on : o .last ≡ false → (rest′ : List ℕ) (pieces′ : ℕ) → rest ≡ o .bytes ++ rest′ → pieces′ < pieces → At (o .next) rest′ pieces′ → Goes rest pieces o
+  data Goes (at : Position) (rest : List ℕ) (o : PieceOutcome) : Type 0 where
+    lasts : o .last ≡ true → o .bytes ≡ rest → o .reply ≡ jobVerdict file → Goes at rest o
+    goes-on : o .last ≡ false → (rest′ : List ℕ) → rest ≡ o .bytes ++ rest′ → left (o .next) < left at → At (o .next) rest′ → Goes at rest o
 
   -- which piece it is, by whether all rows are written
   module _ (at : Position) (room : ℕ) where
@@ -162,32 +172,33 @@ module _ (file : List ℕ) where
         dropped : drop r (drop m A) ≡ drop (m + length rows) A
         dropped = drop-drop r m A ∙ sym (drop-same k A rising wide most′ m r)
 
-    goes-rows : (rest : List ℕ) (pieces : ℕ) → rest ≡ linesOf (drop m A) ++ endLine (length A) → length A - m < pieces
-        → Seen (some (drop r (drop m A))) → Goes rest pieces (rowsPiece at rows (some (drop r (drop m A))))
-    goes-rows rest pieces e p (yes! t) =
+    goes-rows : (rest : List ℕ) → rest ≡ linesOf (drop m A) ++ endLine (length A) → at .listed ≡ false → Seen (some (drop r (drop m A)))
+        → Goes at rest (rowsPiece at rows (some (drop r (drop m A))))
+    goes-rows rest e l (yes! t) =
         let more : min (length A) (m + r) < length A = ltb-true (min (length A) (m + r)) (length A) (sym (some-after k A rising wide most′ m r) ∙ t) in
-        Goes.goes-on refl (linesOf (drop (m + length rows) A) ++ endLine (length A)) (length A - m) (e ∙ rest-is) p
-        (At.listing (m + length rows) stands-next (ap not t) refl (omega (arith, count, more, some-room .1)))
-    goes-rows rest pieces e p (no! t) =
+        Goes.goes-on refl (linesOf (drop (m + length rows) A) ++ endLine (length A)) (e ∙ rest-is)
+        (omega (arith, left-listing next (m + length rows) (ap not t) (stands-next .total), left-listing at m l (s .total), count, more, some-room .1))
+        (At.listing (m + length rows) stands-next (ap not t) refl)
+    goes-rows rest e l (no! t) =
         let all : length A ≤ min (length A) (m + r) = ltb-false (min (length A) (m + r)) (length A) (sym (some-after k A rising wide most′ m r) ∙ t) in
         let end : m + length rows ≡ length A = omega (arith, count, all, s .within) in
-        Goes.goes-on refl (endLine (length A)) 0
+        Goes.goes-on refl (endLine (length A))
         (e ∙ rest-is ∙ ap (λ (l : List ℕ). linesOf rows ++ l) (ap (λ (l : List Row). linesOf l ++ endLine (length A)) (drop-of-length-le A {i = m + length rows} (omega (arith, end)))))
-        (omega arith)
+        (omega (arith, left-ended next (ap not t), left-listing at m l (s .total)))
         (At.ended (accepted-reply file (s .accepted)) (stands-next .total ∙ end) (ap not t) refl)
 
   -- a piece in a buffer that is not too short
-  goes : (at : Position) (rest : List ℕ) (pieces room : ℕ) → smallest ≤ room → At at rest pieces → Goes rest pieces (pieceOutcome file at room)
+  goes : (at : Position) (rest : List ℕ) (room : ℕ) → smallest ≤ room → At at rest → Goes at rest (pieceOutcome file at room)
   unfolding pieceOutcome
-  goes at rest pieces room h (At.refused z l e) =
+  goes at rest room h (At.refused z l e) =
       rw (le-ltb room 25 h)
-      (subst (λ (o : PieceOutcome). Goes rest pieces o) (sym (unlisted at room l ∙ refused-list file z at room)) (Goes.lasts refl (sym e) refl))
-  goes at rest pieces room h (At.listing m s l e p) =
+      (subst (λ (o : PieceOutcome). Goes at rest o) (sym (unlisted at room l ∙ refused-list file z at room)) (Goes.lasts refl (sym e) refl))
+  goes at rest room h (At.listing m s l e) =
       rw (le-ltb room 25 h)
-      (subst (λ (o : PieceOutcome). Goes rest pieces o) (sym (unlisted at room l ∙ rows-are at m s room h)) (goes-rows at m s room h rest pieces e p (seen (some (drop (numbersFor room / k) (drop m A))))))
-  goes at rest pieces room h (At.ended z t l e) =
+      (subst (λ (o : PieceOutcome). Goes at rest o) (sym (unlisted at room l ∙ rows-are at m s room h)) (goes-rows at m s room h rest e l (seen (some (drop (numbersFor room / k) (drop m A))))))
+  goes at rest room h (At.ended z t l e) =
       rw (le-ltb room 25 h)
-      (subst (λ (o : PieceOutcome). Goes rest pieces o) (sym (all-listed at room l)) (Goes.lasts refl (ap endLine t ∙ sym e) (sym z)))
+      (subst (λ (o : PieceOutcome). Goes at rest o) (sym (all-listed at room l)) (Goes.lasts refl (ap endLine t ∙ sym e) (sym z)))
 
   -- One call.
 
@@ -197,84 +208,110 @@ module _ (file : List ℕ) where
       rw (d .0, d .1) (take-at (o .bytes) (drop (length (o .bytes)) (g .lentBuffer)) (length (o .bytes)) refl)
 
   -- what it did: its piece is the last, and all that was to come; or the rest is still to come after it
-  data Did (at : Position) (rest : List ℕ) (pieces : ℕ) (g : Call) : Type 0 where
-    lasts : g .piece .last ≡ true → take (g .piece .count) (g .buffer) ≡ rest → g .piece .reply ≡ jobVerdict file → Did at rest pieces g
-    goes-on : g .piece .last ≡ false → (rest′ : List ℕ) (pieces′ : ℕ) → rest ≡ take (g .piece .count) (g .buffer) ++ rest′
-        → bit (not (ltb (length (g .lentBuffer)) smallest)) + pieces′ ≤ pieces → At (g .piece .next) rest′ pieces′ → Did at rest pieces g
+  data Did (at : Position) (rest : List ℕ) (g : Call) : Type 0 where
+    lasts : g .piece .last ≡ true → take (g .piece .count) (g .buffer) ≡ rest → g .piece .reply ≡ jobVerdict file → Did at rest g
+    goes-on : g .piece .last ≡ false → (rest′ : List ℕ) → rest ≡ take (g .piece .count) (g .buffer) ++ rest′
+        → bit (not (ltb (length (g .lentBuffer)) smallest)) + left (g .piece .next) ≤ left at → At (g .piece .next) rest′ → Did at rest g
 
-  did : (at : Position) (rest : List ℕ) (pieces : ℕ) (g : Call) → At at rest pieces
-      → PieceLeaves (pieceOutcome file at (length (g .lentBuffer))) (g .lentBuffer) (g .piece) (g .buffer) → Did at rest pieces g
+  did : (at : Position) (rest : List ℕ) (g : Call) → At at rest
+      → PieceLeaves (pieceOutcome file at (length (g .lentBuffer))) (g .lentBuffer) (g .piece) (g .buffer) → Did at rest g
   unfolding pieceOutcome
-  did at rest pieces g a d = go (seen (ltb (length (g .lentBuffer)) 25))
+  did at rest g a d = go (seen (ltb (length (g .lentBuffer)) 25))
     where
-      from : Goes rest pieces (pieceOutcome file at (length (g .lentBuffer))) → ltb (length (g .lentBuffer)) 25 ≡ false → Did at rest pieces g
+      -- it goes on at this position
+      on : (o : PieceOutcome) (rest′ : List ℕ) → PieceLeaves o (g .lentBuffer) (g .piece) (g .buffer) → o .last ≡ false → rest ≡ o .bytes ++ rest′
+          → bit (not (ltb (length (g .lentBuffer)) 25)) + left (o .next) ≤ left at → At (o .next) rest′ → Did at rest g
+      on o rest′ w l e p next =
+          let same : g .piece .next ≡ o .next = ap (λ (p : Piece). p .next) (w .0) in
+          Did.goes-on (ap (λ (p : Piece). p .last) (w .0) ∙ l) rest′ (e ∙ ap (λ (b : List ℕ). b ++ rest′) (sym (written o g w)))
+          (subst (λ (q : Position). bit (not (ltb (length (g .lentBuffer)) 25)) + left q ≤ left at) (sym same) p)
+          (subst (λ (q : Position). At q rest′) (sym same) next)
+
+      from : Goes at rest (pieceOutcome file at (length (g .lentBuffer))) → ltb (length (g .lentBuffer)) 25 ≡ false → Did at rest g
       from (Goes.lasts l b r) t =
           Did.lasts (ap (λ (p : Piece). p .last) (d .0) ∙ l) (written (pieceOutcome file at (length (g .lentBuffer))) g d ∙ b) (ap (λ (p : Piece). p .reply) (d .0) ∙ r)
-      from (Goes.goes-on l rest′ pieces′ e p next) t =
-          Did.goes-on (ap (λ (p : Piece). p .last) (d .0) ∙ l) rest′ pieces′
-          (e ∙ ap (λ (b : List ℕ). b ++ rest′) (sym (written (pieceOutcome file at (length (g .lentBuffer))) g d)))
-          (rw t (omega (arith, p)))
-          (subst (λ (q : Position). At q rest′ pieces′) (sym (ap (λ (p : Piece). p .next) (d .0))) next)
+      from (Goes.goes-on l rest′ e p next) t =
+          let one : bit (not (ltb (length (g .lentBuffer)) 25)) ≡ 1 = ap (λ (b : Bool). bit (not b)) t in
+          on (pieceOutcome file at (length (g .lentBuffer))) rest′ d l e (omega (arith, one, p)) next
 
-      short : PieceLeaves (tooShort at) (g .lentBuffer) (g .piece) (g .buffer) → ltb (length (g .lentBuffer)) 25 ≡ true → Did at rest pieces g
-      short e t =
-          Did.goes-on (ap (λ (p : Piece). p .last) (e .0)) rest pieces (ap (λ (b : List ℕ). b ++ rest) (sym (written (tooShort at) g e))) (rw t (omega arith))
-          (subst (λ (q : Position). At q rest pieces) (sym (ap (λ (p : Piece). p .next) (e .0))) a)
+      go : Seen (ltb (length (g .lentBuffer)) 25) → Did at rest g
+      go (yes! t) = on (tooShort at) rest (rw t at d) refl refl (rw t (omega arith)) a
+      go (no! t) = from (goes at rest (length (g .lentBuffer)) (ltb-false (length (g .lentBuffer)) 25 t) a) t
 
-      go : Seen (ltb (length (g .lentBuffer)) 25) → Did at rest pieces g
-      go (yes! t) = short (rw t at d) t
-      go (no! t) = from (goes at rest pieces (length (g .lentBuffer)) (ltb-false (length (g .lentBuffer)) 25 t) a) t
+  -- The same of a call with room for a line, for a loop of such calls.
+
+  -- some output is to come from a position on
+  abbrev pub Printing : Position → Type 0
+  Printing at = (rest : List ℕ) × At at rest
+
+  module _ (at : Position) (w : Printing at) (before : List ℕ) (p : Piece) (out : List ℕ) (d : PieceLeaves (pieceOutcome file at (length before)) before p out)
+      (h : smallest ≤ length before) where
+    pub printed-more : p .last ≡ false → Printing (p .next) × (left (p .next) < left at)
+    printed-more l = go (did at (w .0) (record { lentBuffer = before; piece = p; buffer = out }) (w .1) d)
+      where
+        go : Did at (w .0) (record { lentBuffer = before; piece = p; buffer = out }) → Printing (p .next) × (left (p .next) < left at)
+        go (Did.lasts f b r) = no-yes l f
+        go (Did.goes-on _ rest e m next) =
+            let one : bit (not (ltb (length before) 25)) ≡ 1 = ap (λ (b : Bool). bit (not b)) (le-ltb (length before) 25 h) in
+            ((rest, next), omega (arith, one, m))
+
+    pub printed-all : p .last ≡ true → p .reply ≡ jobVerdict file
+    printed-all l = go (did at (w .0) (record { lentBuffer = before; piece = p; buffer = out }) (w .1) d)
+      where
+        go : Did at (w .0) (record { lentBuffer = before; piece = p; buffer = out }) → p .reply ≡ jobVerdict file
+        go (Did.lasts _ b r) = r
+        go (Did.goes-on f rest e m next) = no-yes f l
 
   -- A list of calls.
 
-  front-from : (gs : List Call) (at : Position) (rest : List ℕ) (pieces : ℕ) → At at rest pieces → Chain file at gs → Unfinished gs
+  front-from : (gs : List Call) (at : Position) (rest : List ℕ) → At at rest → Chain file at gs → Unfinished gs
       → (rest′ : List ℕ) × (0 < length rest′) × (joined gs ++ rest′ ≡ rest)
-  front-from [] at rest pieces a ch u = (rest, some-left at rest pieces a, refl)
-  front-from (g ∷ gs) at rest pieces a ch u =
-      go (λ rest₁ pieces₁ next. front-from gs (g .piece .next) rest₁ pieces₁ next (ch .1) (u .1)) (did at rest pieces g a (ch .0))
+  front-from [] at rest a ch u = (rest, some-left at rest a, refl)
+  front-from (g ∷ gs) at rest a ch u =
+      go (λ rest₁ next. front-from gs (g .piece .next) rest₁ next (ch .1) (u .1)) (did at rest g a (ch .0))
     where
-      go : ((rest₁ : List ℕ) (pieces₁ : ℕ) → At (g .piece .next) rest₁ pieces₁ → (rest′ : List ℕ) × (0 < length rest′) × (joined gs ++ rest′ ≡ rest₁))
-          → Did at rest pieces g → (rest′ : List ℕ) × (0 < length rest′) × (joined (g ∷ gs) ++ rest′ ≡ rest)
+      go : ((rest₁ : List ℕ) → At (g .piece .next) rest₁ → (rest′ : List ℕ) × (0 < length rest′) × (joined gs ++ rest′ ≡ rest₁))
+          → Did at rest g → (rest′ : List ℕ) × (0 < length rest′) × (joined (g ∷ gs) ++ rest′ ≡ rest)
       go ih (Did.lasts l b r) = no-yes (u .0) l
-      go ih (Did.goes-on l rest₁ pieces₁ e p next) =
-          let w = ih rest₁ pieces₁ next in
+      go ih (Did.goes-on l rest₁ e p next) =
+          let w = ih rest₁ next in
           (w .0, w .1, append-assoc (take (g .piece .count) (g .buffer)) (joined gs) (w .0) ∙ ap (λ (b : List ℕ). take (g .piece .count) (g .buffer) ++ b) (w .2) ∙ sym e)
 
-  ends-from : (gs : List Call) (at : Position) (rest : List ℕ) (pieces : ℕ) → At at rest pieces → Chain file at gs → Unfinished gs → roomy gs ≤ pieces
-  ends-from [] at rest pieces a ch u = omega arith
-  ends-from (g ∷ gs) at rest pieces a ch u =
-      go (λ rest₁ pieces₁ next. ends-from gs (g .piece .next) rest₁ pieces₁ next (ch .1) (u .1)) (did at rest pieces g a (ch .0))
+  ends-from : (gs : List Call) (at : Position) (rest : List ℕ) → At at rest → Chain file at gs → Unfinished gs → roomy gs ≤ left at
+  ends-from [] at rest a ch u = omega arith
+  ends-from (g ∷ gs) at rest a ch u =
+      go (λ rest₁ next. ends-from gs (g .piece .next) rest₁ next (ch .1) (u .1)) (did at rest g a (ch .0))
     where
-      go : ((rest₁ : List ℕ) (pieces₁ : ℕ) → At (g .piece .next) rest₁ pieces₁ → roomy gs ≤ pieces₁) → Did at rest pieces g → roomy (g ∷ gs) ≤ pieces
+      go : ((rest₁ : List ℕ) → At (g .piece .next) rest₁ → roomy gs ≤ left (g .piece .next)) → Did at rest g → roomy (g ∷ gs) ≤ left at
       go ih (Did.lasts l b r) = no-yes (u .0) l
-      go ih (Did.goes-on l rest₁ pieces₁ e p next) = omega (arith, p, ih rest₁ pieces₁ next)
+      go ih (Did.goes-on l rest₁ e p next) = omega (arith, p, ih rest₁ next)
 
-  whole-from : (before : List Call) (g : Call) (at : Position) (rest : List ℕ) (pieces : ℕ) → At at rest pieces → Chain file at (before ++ (g ∷ []))
+  whole-from : (before : List Call) (g : Call) (at : Position) (rest : List ℕ) → At at rest → Chain file at (before ++ (g ∷ []))
       → Unfinished before → g .piece .last ≡ true → (joined (before ++ (g ∷ [])) ≡ rest) × (g .piece .reply ≡ jobVerdict file)
-  whole-from [] g at rest pieces a ch u l = go (did at rest pieces g a (ch .0))
+  whole-from [] g at rest a ch u l = go (did at rest g a (ch .0))
     where
-      go : Did at rest pieces g → (joined (g ∷ []) ≡ rest) × (g .piece .reply ≡ jobVerdict file)
+      go : Did at rest g → (joined (g ∷ []) ≡ rest) × (g .piece .reply ≡ jobVerdict file)
       go (Did.lasts _ b r) = (append-nil (take (g .piece .count) (g .buffer)) ∙ b, r)
-      go (Did.goes-on f rest₁ pieces₁ e p next) = no-yes f l
-  whole-from (d ∷ before) g at rest pieces a ch u l =
-      go (λ rest₁ pieces₁ next. whole-from before g (d .piece .next) rest₁ pieces₁ next (ch .1) (u .1) l) (did at rest pieces d a (ch .0))
+      go (Did.goes-on f rest₁ e p next) = no-yes f l
+  whole-from (d ∷ before) g at rest a ch u l =
+      go (λ rest₁ next. whole-from before g (d .piece .next) rest₁ next (ch .1) (u .1) l) (did at rest d a (ch .0))
     where
-      go : ((rest₁ : List ℕ) (pieces₁ : ℕ) → At (d .piece .next) rest₁ pieces₁ → (joined (before ++ (g ∷ [])) ≡ rest₁) × (g .piece .reply ≡ jobVerdict file))
-          → Did at rest pieces d → (joined (d ∷ (before ++ (g ∷ []))) ≡ rest) × (g .piece .reply ≡ jobVerdict file)
+      go : ((rest₁ : List ℕ) → At (d .piece .next) rest₁ → (joined (before ++ (g ∷ [])) ≡ rest₁) × (g .piece .reply ≡ jobVerdict file))
+          → Did at rest d → (joined (d ∷ (before ++ (g ∷ []))) ≡ rest) × (g .piece .reply ≡ jobVerdict file)
       go ih (Did.lasts f b r) = no-yes (u .0) f
-      go ih (Did.goes-on _ rest₁ pieces₁ e p next) =
-          let w = ih rest₁ pieces₁ next in
+      go ih (Did.goes-on _ rest₁ e p next) =
+          let w = ih rest₁ next in
           (ap (λ (b : List ℕ). take (d .piece .count) (d .buffer) ++ b) (w .0) ∙ sym e, w .1)
 
   -- at the beginning all of the output is to come
-  at-beginning : At beginning (outputOf file) (length A + 1)
+  pub at-beginning : At beginning (outputOf file)
   unfolding outputOf
   at-beginning = go (seen (eqb (jobVerdict file .number) 0))
     where
-      go : Seen (eqb (jobVerdict file .number) 0) → At beginning (outputOf file) (length A + 1)
+      go : Seen (eqb (jobVerdict file .number) 0) → At beginning (outputOf file)
       go (yes! t) =
           rw t
-          (At.listing 0 (record { accepted = eqb-true (jobVerdict file .number) 0 t; within = omega arith; total = refl; next = refl; nodes = λ b. no-yes refl b }) refl refl (omega arith))
+          (At.listing 0 (record { accepted = eqb-true (jobVerdict file .number) 0 t; within = omega arith; total = refl; next = refl; nodes = λ b. no-yes refl b }) refl refl)
       go (no! t) = rw t (At.refused (λ z. no-yes t (eq-eqb (jobVerdict file .number) 0 z)) refl refl)
 
   -- Of any list of calls over a file from the output's beginning on, with buffers of any sizes: while none has said that its piece
@@ -283,11 +320,11 @@ module _ (file : List ℕ) where
   -- buffer that is too short gets nothing, and changes nothing.
   pub pieces-joined : (gs : List Call) → Chain file beginning gs → Printed file gs
   pieces-joined gs ch = record {
-    front = front-from gs beginning (outputOf file) (length A + 1) at-beginning ch;
-    ends = ends-from gs beginning (outputOf file) (length A + 1) at-beginning ch;
+    front = front-from gs beginning (outputOf file) at-beginning ch;
+    ends = λ u. omega (arith, ends-from gs beginning (outputOf file) at-beginning ch u);
     whole = λ before g e u l.
         subst (λ (z : List Call). Chain file beginning z → (joined z ≡ outputOf file) × (g .piece .reply ≡ jobVerdict file)) (sym e)
-        (λ c. whole-from before g beginning (outputOf file) (length A + 1) at-beginning c u l) ch;
+        (λ c. whole-from before g beginning (outputOf file) at-beginning c u l) ch;
   }
 
   -- whatever buffers are lent, there are calls that are lent them, from every position on
