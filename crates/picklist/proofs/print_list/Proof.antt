@@ -44,29 +44,32 @@ print-rows-requires c κs =
     let l = e .before .before .before .before .before .before .loop in
     count-fits _ _ _ _ _ _ _ _ (e .before .before .before .before .page-from .ensures) (e .if1 .left) _ (l .inv .0) (l .inv .1) (long e)
 
+returns-2 : tie.Need-returns-2 Inv-loop μ-loop
+returns-2 c = search needs
+
 add-total : tie.Need-add-total Inv-loop μ-loop
 add-total c =
-    let e = c .before .before .before in
+    let e = c .before .before .before .before in
     let l = e .before .before .before .before .before .before .loop in
     omega (arith, total-fits _ _ _ _ _ _ _ _ (e .before .before .before .before .page-from .ensures) (e .if1 .left) _ (l .inv .0) (l .inv .1))
 
 print-end-requires : tie.Need-print-end-requires Inv-loop μ-loop
 print-end-requires c κs = search needs
 
-returns-2 : tie.Need-returns-2 Inv-loop μ-loop
-returns-2 c = search needs
+returns-3 : tie.Need-returns-3 Inv-loop μ-loop
+returns-3 c = search needs
 
 loop-less : tie.Need-loop-less Inv-loop μ-loop
 loop-less c =
-    let e = c .before .before .before .before .before .before in
+    let e = c .before .before .before .before .before .before .before in
     let l = e .before .before .before .before .before .before .loop in
-    fewer-left _ _ _ _ _ _ _ _ (e .before .before .before .before .page-from .ensures) (e .if1 .left) _ (l .inv .0) (l .inv .1) (not-false _ (c .before .if2 .left))
+    fewer-left _ _ _ _ _ _ _ _ (e .before .before .before .before .page-from .ensures) (e .if1 .left) _ (l .inv .0) (l .inv .1) (not-false _ (c .before .if3 .left))
 
 loop-again : tie.Need-loop-again Inv-loop μ-loop
 loop-again c =
-    let e = c .before .before .before .before .before .before in
+    let e = c .before .before .before .before .before .before .before in
     let l = e .before .before .before .before .before .before .loop in
-    (printed-more _ _ _ _ _ _ _ _ (e .before .before .before .before .page-from .ensures) (e .if1 .left) _ (l .inv .0) (l .inv .1) (not-false _ (c .before .if2 .left)), long e)
+    (printed-more _ _ _ _ _ _ _ _ (e .before .before .before .before .page-from .ensures) (e .if1 .left) _ (l .inv .0) (l .inv .1) (not-false _ (c .before .if3 .left)), long e)
 
 pub print-list-spec : {M : Type 1} → statement M
 print-list-spec =
@@ -81,8 +84,9 @@ print-list-spec =
     returns
     slice-aggregate-print-rows
     print-rows-requires
+    returns-2
     add-total
     print-end-requires
-    returns-2
+    returns-3
     loop-less
     loop-again)

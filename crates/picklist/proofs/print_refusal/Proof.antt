@@ -15,11 +15,14 @@ refused-line-requires c κs = search needs
 array-share-prefix-out : tie.Need-array-share-prefix-out
 array-share-prefix-out c = line-within _ _ _ _ (c .before .refused-line .ensures) (c .before .refused-line .kept .0)
 
-slice-aggregate-write-all : tie.Need-slice-aggregate-write-all
-slice-aggregate-write-all c = sym (length-take-le _ _ (array-share-prefix-out (c .before)))
+slice-aggregate-write-whole : tie.Need-slice-aggregate-write-whole
+slice-aggregate-write-whole c = sym (length-take-le _ _ (array-share-prefix-out (c .before)))
 
-write-all-requires : tie.Need-write-all-requires
-write-all-requires c κs = search needs
+write-whole-requires : tie.Need-write-whole-requires
+write-whole-requires c κs = search needs
+
+ended-requires : tie.Need-ended-requires
+ended-requires c κs = search needs
 
 returns : tie.Need-returns
 returns c = search needs
@@ -31,6 +34,7 @@ print-refusal-spec =
     slice-aggregate-refused-line
     refused-line-requires
     array-share-prefix-out
-    slice-aggregate-write-all
-    write-all-requires
+    slice-aggregate-write-whole
+    write-whole-requires
+    ended-requires
     returns)
