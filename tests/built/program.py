@@ -246,9 +246,9 @@ def inputs():
     compare("a pipe of 4,096 bytes, 5 at a time", fed(sized(4096), 5), ROWS)
     compare("a pipe of 4,097 bytes that stays open", fed(sized(4097), 1000, closes=False), refused(1))
     closed = subprocess.run(["sh", "-c", 'exec "$0" <&-', PROGRAM], stdout=subprocess.PIPE, timeout=300)
-    compare("a closed input", closed.stdout, refused(1))
+    compare("a closed input", closed.stdout, b"")
     folder = subprocess.run(["sh", "-c", 'exec "$0" <.', PROGRAM], stdout=subprocess.PIPE, timeout=300)
-    compare("an input that cannot be read", folder.stdout, refused(1))
+    compare("an input that cannot be read", folder.stdout, b"")
 
 
 for name, bytes_of, wanted in FILES:

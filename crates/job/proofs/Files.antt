@@ -182,10 +182,16 @@ module _ (file : List ℕ) where
   abbrev Within : Span → Type 0
   Within s = (endOf s ≤ length file) × (s .count ≤ 2042)
 
-  pub parts-within : (j : Job) → j ≡ jobOf file → Within (j .tree) × Within (j .query)
+  parts-within : (j : Job) → j ≡ jobOf file → Within (j .tree) × Within (j .query)
   unfolding jobOf fileChecks partChecks Passes
   parts-within j q = rw q (go (seen (eqb (verdict (fileChecks file) .number) 0)))
     where
       go : Seen (eqb (verdict (fileChecks file) .number) 0) → Within (jobOf file .tree) × Within (jobOf file .query)
       go (yes! e) = let w = accepted-checks e in rw e (decodable (length file) (trailerOf file .tree) (w .0) (w .1 .1 .0), decodable (length file) (trailerOf file .query) (w .0) (w .1 .1 .1 .0))
       go (no! e) = rw e (omega arith, omega arith)
+
+  pub tree-within : (j : Job) → j ≡ jobOf file → Within (j .tree)
+  tree-within j q = parts-within j q .0
+
+  pub query-within : (j : Job) → j ≡ jobOf file → Within (j .query)
+  query-within j q = parts-within j q .1

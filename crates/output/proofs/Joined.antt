@@ -304,7 +304,7 @@ module _ (file : List ℕ) where
           (ap (λ (b : List ℕ). take (d .piece .count) (d .buffer) ++ b) (w .0) ∙ sym e, w .1)
 
   -- at the beginning all of the output is to come
-  pub at-beginning : At beginning (outputOf file)
+  at-beginning : At beginning (outputOf file)
   unfolding outputOf
   at-beginning = go (seen (eqb (jobVerdict file .number) 0))
     where
@@ -313,6 +313,9 @@ module _ (file : List ℕ) where
           rw t
           (At.listing 0 (record { accepted = eqb-true (jobVerdict file .number) 0 t; within = omega arith; total = refl; next = refl; nodes = λ b. no-yes refl b }) refl refl)
       go (no! t) = rw t (At.refused (λ z. no-yes t (eq-eqb (jobVerdict file .number) 0 z)) refl refl)
+
+  pub printing-first : (at : Position) → at ≡ beginning → Printing at
+  printing-first at e = subst (λ (p : Position). Printing p) (sym e) (outputOf file, at-beginning)
 
   -- Of any list of calls over a file from the output's beginning on, with buffers of any sizes: while none has said that its piece
   -- is the last, the pieces joined are the front of the file's output, and some of it is to come, in no more pieces than there are

@@ -6,7 +6,7 @@ use mathlib.Core.Path.{_≡_, refl, sym, ap, _∙_, subst}
 use mathlib.Core.Bool.{Bool, true, false, not, cond}
 use mathlib.Core.List.{List, _++_}
 use lib.Dec.{ltb, eqb}
-use lib.ListN.{length, take, drop, length-take}
+use lib.ListN.{length, take, drop, length-append, length-take}
 use lib.Seq.{take-at}
 use borrow.Author.Tests.{eqb-true, eq-eqb, ne-eqb}
 use Rattle.model.specs.declared.Cursor.{Cursor}
@@ -96,6 +96,13 @@ module _ (file before : List ℕ) (at : Position) (r : Piece) (out : List ℕ) w
       → PieceLeaves (pieceOutcome file at (length before)) before r out
   unfolding pieceOutcome
   rows-piece s l h = rw s (either (at .listed) (endPiece at) (listPiece file at (length before)) (λ e. no-yes l e) (λ _. h))
+
+-- a piece lies within its buffer
+pub piece-within : (file : List ℕ) (at : Position) (before : List ℕ) (p : Piece) (out : List ℕ) → PieceLeaves (pieceOutcome file at (length before)) before p out
+    → p .count ≤ length out
+piece-within file at before p out d =
+    let o : PieceOutcome = pieceOutcome file at (length before) in
+    omega (arith, ap (λ (p : Piece). p .count) (d .0), ap length (d .1), length-append (o .bytes) (drop (length (o .bytes)) before))
 
 -- a page call with room for as many numbers as a piece has in so many bytes
 module _ (t q : List ℕ) (k : ℕ) (at : Position) (rows : List ℕ) (page : Paged) (left : List ℕ) (room : ℕ)

@@ -1,5 +1,5 @@
 use Rattle.output.proofs.Page.{file-refused, file-listed}
-use Rattle.job.proofs.Files.{parts-within}
+use Rattle.job.proofs.Files.{tree-within, query-within}
 use borrow.Author.Needs.{needs}
 use Rattle.output.proofs.list_piece.Statement.{statement}
 use Rattle.output.proofs.list_piece.Tie as tie
@@ -20,7 +20,7 @@ wide-requires : tie.Need-wide-requires
 wide-requires c κs = search needs
 
 parts-piece-requires : tie.Need-parts-piece-requires
-parts-piece-requires c κs = let w = parts-within _ _ (c .before .before .before .before .before .before .before .open .ensures) in (w .0, (w .1, c .before .before .before .before .before .before .before .before .before .before .pre))
+parts-piece-requires c κs = search (tree-within, query-within, needs)
 
 same-length-2 : tie.Need-same-length-2
 same-length-2 c = search needs
