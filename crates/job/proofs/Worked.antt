@@ -8,12 +8,12 @@ use Rattle.model.specs.Warehouse.{warehouse, bayAndPallet}
 use Rattle.job.specs.JobFile.{numberAt, numbers, outside, overlap, partChecks, fileChecks, jobOf}
 
 -- the bytes of numbers, low byte first
-bytes : List ℕ → List ℕ
+unfoldable pub bytes : List ℕ → List ℕ
 bytes [] = []
 bytes (x ∷ xs) = x % 256 ∷ x / 256 ∷ bytes xs
 
 -- the teaching job
-pub teaching : List ℕ
+unfoldable pub teaching : List ℕ
 teaching = bytes (warehouse ++ (bayAndPallet ++ (92 ∷ 12 ∷ 68 ∷ 28 ∷ 2 ∷ 20564 ∷ [])))
 
 -- the teaching job is accepted, with 12 numbers of its tree from byte 0 on, 28 of its query from byte 24 on, and two variables

@@ -2,3 +2,4 @@ pub mod Page
 pub mod Count
 pub mod Verdict
 pub mod Joined
+pub mod Worked
