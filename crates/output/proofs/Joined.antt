@@ -1,5 +1,5 @@
 -- The pieces of a file's output, joined: from the beginning on they are the output, whatever the sizes of the buffers.
-use Prim.Native.Nat.{ℕ, zero, suc, _+_, _-_, _*_, _/_, _%_, _^_, _≤_, _<_, min}
+use Prim.Native.Nat.{ℕ, _+_, _-_, _/_, _%_, _^_, _≤_, _<_, min}
 use native.Mathlib.Nat.{mod-eq-of-lt, le-div-iff-mul-le}
 use native.Mathlib.Omega.{arith}
 use mathlib.Core.Path.{_≡_, refl, sym, ap, _∙_, subst}
@@ -8,12 +8,11 @@ use mathlib.Core.List.{List, [], _∷_, _++_, append-assoc, append-nil}
 use lib.Dec.{ltb, eqb}
 use lib.ListN.{length, take, drop, getD, length-append, length-take, length-drop, take-append-drop, drop-of-length-le}
 use lib.Seq.{take-at, drop-drop}
-use borrow.Author.Tests.{ltb-true, ltb-false, le-ltb, eqb-true, eq-eqb, ne-eqb, not-false}
-use Rattle.model.specs.declared.Reply.{Reply}
+use borrow.Author.Tests.{ltb-true, ltb-false, le-ltb, eqb-true, eq-eqb}
 use Rattle.model.specs.Sets.{bit}
 use Rattle.model.specs.Tree.{sizeOf}
 use Rattle.model.specs.Answers.{Row, answers}
-use Rattle.model.specs.Pages.{rowOf, hasBegun, after, moved, flat, some}
+use Rattle.model.specs.Pages.{rowOf, hasBegun, after, moved, some}
 use Rattle.model.specs.Accepted.{Below}
 use Rattle.model.specs.Refusals.{reply}
 use Rattle.model.proofs.Booleans.{Seen, yes!, no!, seen, no-yes}
@@ -23,8 +22,8 @@ use Rattle.lines.specs.Lines.{rowLine, endLine, refusedLine}
 use Rattle.output.specs.declared.Position.{Position}
 use Rattle.output.specs.declared.Piece.{Piece}
 use Rattle.output.specs.Output.{treeIn, queryIn, columnsIn, jobVerdict, answersIn, linesOf, outputOf}
-use Rattle.output.specs.Piece.{beginning, smallest, numbersFor, PieceOutcome, tooShort, refusedPiece, endPiece, rowsPiece, tablesPiece, listPiece, pieceOutcome, PieceLeaves}
-use Rattle.output.specs.Calls.{Call, Chain, lentTo, joined, roomy, Unfinished, Printed, Pieces}
+use Rattle.output.specs.Piece.{beginning, smallest, numbersFor, PieceOutcome, tooShort, endPiece, rowsPiece, tablesPiece, listPiece, pieceOutcome, PieceLeaves}
+use Rattle.output.specs.Calls.{Call, Chain, joined, roomy, Unfinished, Printed, Pieces}
 use Rattle.output.proofs.Verdict.{file-passes, accepted-reply, most, least, few, page-passes, refused-list}
 
 -- lines of rows

@@ -1,15 +1,14 @@
 -- What a page of answers gives to a piece of output.
-use Prim.Native.Nat.{ℕ, _+_, _*_, _/_, _%_, _^_, _≤_, _<_, min}
+use Prim.Native.Nat.{ℕ, _+_, _*_, _/_, _%_, _^_, _≤_}
 use native.Mathlib.Nat.{zero-add, mul-le-mul-right, div-mul-le-self}
 use native.Mathlib.Omega.{arith}
-use mathlib.Core.Path.{_≡_, refl, sym, ap, _∙_, subst}
+use mathlib.Core.Path.{_≡_, refl, sym, ap, _∙_}
 use mathlib.Core.Bool.{Bool, true, false, not, cond}
 use mathlib.Core.List.{List, _++_}
 use lib.Dec.{ltb, eqb}
 use lib.ListN.{length, take, drop, length-append, length-take}
 use lib.Seq.{take-at}
 use borrow.Author.Tests.{eqb-true, eq-eqb, ne-eqb}
-use Rattle.model.specs.declared.Cursor.{Cursor}
 use Rattle.model.specs.declared.Reply.{Reply}
 use Rattle.model.specs.declared.PageReply.{PageReply}
 use Rattle.model.specs.Answers.{Row, answers}

@@ -1,7 +1,6 @@
 -- For the reader: what the program prints for the teaching job of document 01, and for no bytes at all, by computation.
-use Prim.Native.Nat.{ℕ}
 use mathlib.Core.Path.{_≡_, refl}
-use mathlib.Core.List.{List, [], _∷_}
+use mathlib.Core.List.{[], _∷_}
 use Rattle.model.specs.Sets.{any}
 use Rattle.model.specs.Axes.{climbs, child, right, followingSibling, descendant, following, preceding, descendantOrSelf, ancestorOrSelf, axis, passes, steps}
 use Rattle.model.specs.Meaning.{pairs, holds}

@@ -1,7 +1,7 @@
 -- A list of calls of `next_piece` over one file, and what their pieces are when they are joined.
 use Prim.Native.Nat.{ℕ, _+_, _≤_, _<_}
 use mathlib.Core.Path.{_≡_}
-use mathlib.Core.Bool.{Bool, true, false, not}
+use mathlib.Core.Bool.{true, false, not}
 use mathlib.Core.List.{List, [], _∷_, _++_}
 use lib.Dec.{ltb}
 use lib.ListN.{length, take}
@@ -17,7 +17,8 @@ pub record Call : Type 0 where
   pub piece : Piece
   pub buffer : List ℕ
 
--- each call did what the contract of `next_piece` says, and went on where the call before it left the output, the first at a position
+-- each call did what the contract of `next_piece` says, and went on where the call before it left the output; the first call at a
+-- position
 abbrev pub Chain : List ℕ → Position → List Call → Type 0
 Chain file at [] = Unit
 Chain file at (g ∷ gs) =

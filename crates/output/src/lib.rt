@@ -137,7 +137,8 @@ fn parts_piece(
     ensures { λ r.
         ⌜
         PieceLeaves
-        (tablesPiece (numbers (now (file .entry)) (tree .start) (tree .count)) (numbers (now (file .entry)) (query .start) (query .count)) columns at (length (now (out .entry))))
+        (tablesPiece (numbers (now (file .entry)) (tree .start) (tree .count))
+        (numbers (now (file .entry)) (query .start) (query .count)) columns at (length (now (out .entry))))
         (now (out .entry)) r (now (out .exit))
         ⌝ }
 {
@@ -159,7 +160,11 @@ fn parts_piece(
 // A piece of rows of a file, or its refusal.
 fn list_piece(file: &[u8], at: Position, out: &mut [u8]) -> Piece
     requires { ⌜ smallest ≤ length (now out) ⌝ }
-    ensures { λ r. ⌜ PieceLeaves (listPiece (now (file .entry)) at (length (now (out .entry)))) (now (out .entry)) r (now (out .exit)) ⌝ }
+    ensures { λ r.
+        ⌜
+        PieceLeaves (listPiece (now (file .entry)) at (length (now (out .entry)))) (now (out .entry))
+        r (now (out .exit))
+        ⌝ }
 {
     let job = job::open(file);
     let reply = job.reply;
@@ -190,7 +195,11 @@ pub fn start() -> Position
 // The next piece of the output of a file, over the front of a buffer of 25 bytes or more; a shorter one is 20, and then nothing is
 // written. The cost is that of one page of answers, and of reading the file.
 pub fn next_piece(file: &[u8], at: Position, out: &mut [u8]) -> Piece
-    ensures { λ r. ⌜ PieceLeaves (pieceOutcome (now (file .entry)) at (length (now (out .entry)))) (now (out .entry)) r (now (out .exit)) ⌝ }
+    ensures { λ r.
+        ⌜
+        PieceLeaves (pieceOutcome (now (file .entry)) at (length (now (out .entry)))) (now (out .entry))
+        r (now (out .exit))
+        ⌝ }
 {
     let short = out.len() < 25;
     if short {

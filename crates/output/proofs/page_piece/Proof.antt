@@ -1,4 +1,3 @@
-use mathlib.Core.Path.{refl}
 use Rattle.output.proofs.Page.{page-refused, rows-fit, page-rows}
 use borrow.Author.Needs.{needs}
 use Rattle.output.proofs.page_piece.Statement.{statement}
