@@ -1,7 +1,6 @@
 -- From the 256 bytes of a node set to what a service writes: the front of a buffer, and a relation's table row after row.
-use Prim.Native.Nat.{ℕ, zero, suc, _+_, _-_, _*_, _/_, _%_, _<_, _≤_}
-use native.Mathlib.Nat.{suc-mul, mul-le-mul-right, mul-add-div-right, mul-add-mod-self-right, mod-eq-of-lt, div-eq-of-lt, add-zero, add-suc}
-use native.Mathlib.Numerals.{add-one}
+use Prim.Native.Nat.{ℕ, zero, suc, _+_, _-_, _*_, _<_, _≤_}
+use native.Mathlib.Nat.{mul-le-mul-right, add-zero, add-suc}
 use native.Mathlib.Omega.{arith}
 use mathlib.Core.Path.{_≡_, sym, ap, _∙_}
 use mathlib.Core.Bool.{Bool, false}
@@ -14,7 +13,7 @@ use Rattle.model.specs.Tree.{sizeOf}
 use Rattle.model.specs.QueryTable.{lastOf}
 use Rattle.model.specs.Results.{related, imageBytes, cell, pairsBytes}
 use Rattle.model.specs.Refusals.{written}
-use Rattle.model.proofs.Bytes.{tab-snoc, tab-cong, length-tab, length-over, tab-front}
+use Rattle.model.proofs.Bytes.{tab-snoc, tab-cong, length-tab, length-over, tab-front, row-fits, cell-at}
 use Rattle.model.proofs.Refusals.{written-over}
 use Rattle.sets.specs.NodeSets.{only}
 use Rattle.sets.proofs.Images.{memb-upto, image-one, image-from}
@@ -64,19 +63,6 @@ tab-append a (suc n) S =
     ∙ ap (λ (l : List ℕ). tab a S ++ l) (sym (tab-snoc n (λ k. S (a + k)))))
 
 module _ (n x at : ℕ) (e : at ≡ x * n) where
-  pub row-next : at + n ≡ (x + 1) * n
-  row-next = rw (e, add-one x, suc-mul x n)
-
-  pub row-fits : x < n → at + n ≤ n * n
-  row-fits l = rw row-next (mul-le-mul-right n (let h : x + 1 ≤ n = omega arith in h))
-
-  cell-at : (R : ℕ → ℕ → Bool) (k : ℕ) → k < n → cell n R (at + k) ≡ R x k
-  unfolding cell
-  cell-at R k l =
-      let d : (x * n + k) / n ≡ x = mul-add-div-right (let h : 0 < n = omega arith in h) x k ∙ rw (div-eq-of-lt l, add-zero x) in
-      let m : (x * n + k) % n ≡ k = mul-add-mod-self-right x n k ∙ mod-eq-of-lt l in
-      rw (e, d, m)
-
   module _ (R : ℕ → ℕ → Bool) (o l r l′ : List ℕ) where
     -- one row more is written behind those of the nodes before x
     pub row-over : l′ ≡ take at l ++ (tab n (memb r) ++ drop n (drop at l)) → l ≡ tab at (cell n R) ++ drop at o → r ≡ tab 256 (upto n (R x)) → n ≤ 256
@@ -86,7 +72,7 @@ module _ (n x at : ℕ) (e : at ≡ x * n) where
         (ap (λ (m : List ℕ). tab at (cell n R) ++ (m ++ drop (at + n) o)) rows ∙ sym (append-assoc (tab at (cell n R)) (tab n (λ k. cell n R (at + k))) (drop (at + n) o)))
       where
         rows : tab n (memb r) ≡ tab n (λ k. cell n R (at + k))
-        rows = tab-cong n (memb r) (λ k. cell n R (at + k)) (λ k m. rw g (memb-upto n h (R x) k m) ∙ sym (cell-at R k m))
+        rows = tab-cong n (memb r) (λ k. cell n R (at + k)) (λ k m. rw g (memb-upto n h (R x) k m) ∙ sym (cell-at n x at e R k m))
 
 -- there is room for one row more
 pub row-room : (n x at : ℕ) (S : ℕ → Bool) (o l : List ℕ) → l ≡ tab at S ++ drop at o → at ≡ x * n → x < n → n * n ≤ length o → at + n ≤ length l

@@ -10,10 +10,15 @@ use mathlib.Core.List.{List, [], _∷_, _++_, map}
 use lib.Dec.{ltb, eqb}
 use lib.ListN.{length}
 use borrow.Author.Tests.{ltb-true, eqb-true, lt-ltb, le-ltb, eq-eqb, ne-eqb}
-use Rattle.model.specs.Tree.{sizeOf}
+use Rattle.model.specs.Sets.{any}
+use Rattle.model.specs.Tree.{sizeOf, treeOf}
+use Rattle.model.specs.Meaning.{pairs}
+use Rattle.model.specs.QueryTable.{pathAt, lastOf}
+use Rattle.model.specs.Results.{assigned, related}
 use Rattle.model.specs.Accepted.{Below}
 use Rattle.model.specs.Answers.{Row, less, blocks, allRows, consIf, keep, satisfied, answers}
 use Rattle.model.proofs.Booleans.{no-yes, or-cases, yes-left, yes-right}
+use Rattle.model.proofs.Exists.{any-intro, any-elim}
 
 -- What the statements speak of.
 
@@ -228,14 +233,31 @@ module _ (t q : List ℕ) (k : ℕ) where
   unfolding answers
   answers-wide r h = long-out (sizeOf t) k r (kept-in (satisfied t q) r (allRows (sizeOf t) k) h)
 
-  -- a row is an answer exactly if it has k numbers, each a node, and the query has a pair under it
-  pub answers-member : (r : Row) → In r (answers t q k) ↔ ((length r ≡ k) × Below (sizeOf t) r × (satisfied t q r ≡ true))
+  -- the query has a pair (x, y) under the row
+  pub satisfied-pair : (r : Row) → (satisfied t q r ≡ true)
+      ↔ ((x : ℕ) × (x < sizeOf t) × (y : ℕ) × (y < sizeOf t) × (pairs (treeOf t) (assigned r) (pathAt q (lastOf q)) x y ≡ true))
+  unfolding satisfied related
+  satisfied-pair r = (
+    λ h.
+        let (x, l, g) = any-elim (sizeOf t) (λ x. any (sizeOf t) (λ y. pairs (treeOf t) (assigned r) (pathAt q (lastOf q)) x y)) h in
+        let (y, m, p) = any-elim (sizeOf t) (λ y. pairs (treeOf t) (assigned r) (pathAt q (lastOf q)) x y) g in
+        (x, l, y, m, p),
+    λ w.
+        any-intro (sizeOf t) (λ x. any (sizeOf t) (λ y. pairs (treeOf t) (assigned r) (pathAt q (lastOf q)) x y)) (w .0) (w .1)
+        (any-intro (sizeOf t) (λ y. pairs (treeOf t) (assigned r) (pathAt q (lastOf q)) (w .0) y) (w .2) (w .3) (w .4)),
+  )
+
+  -- a row is an answer exactly if it has k numbers, each a node, and the query has a pair (x, y) under it, from any start x
+  pub answers-member : (r : Row) → In r (answers t q k)
+      ↔ ((length r ≡ k)
+      × Below (sizeOf t) r
+      × ((x : ℕ) × (x < sizeOf t) × (y : ℕ) × (y < sizeOf t) × (pairs (treeOf t) (assigned r) (pathAt q (lastOf q)) x y ≡ true)))
   unfolding answers
   answers-member r = (
     λ h. (
       answers-wide r h,
       all-below (sizeOf t) k r (kept-in (satisfied t q) r (allRows (sizeOf t) k) h),
-      kept-holds (satisfied t q) r (allRows (sizeOf t) k) h,
+      satisfied-pair r .0 (kept-holds (satisfied t q) r (allRows (sizeOf t) k) h),
     ),
-    λ h. keeps (satisfied t q) r (allRows (sizeOf t) k) (all-in (sizeOf t) k r (h .0) (h .1)) (h .2),
+    λ h. keeps (satisfied t q) r (allRows (sizeOf t) k) (all-in (sizeOf t) k r (h .0) (h .1)) (satisfied-pair r .1 (h .2)),
   )

@@ -1,6 +1,6 @@
 -- Laws of sets as bytes, and of the loops that fill them.
-use Prim.Native.Nat.{ℕ, zero, suc, _+_, _≤_, _<_}
-use native.Mathlib.Nat.{not-suc-le-zero, le-of-suc-le-suc}
+use Prim.Native.Nat.{ℕ, zero, suc, _+_, _*_, _/_, _%_, _≤_, _<_}
+use native.Mathlib.Nat.{not-suc-le-zero, le-of-suc-le-suc, suc-mul, mul-le-mul-right, mul-add-div-right, mul-add-mod-self-right, mod-eq-of-lt, div-eq-of-lt, add-zero}
 use native.Mathlib.Numerals.{add-one}
 use native.Mathlib.Omega.{arith}
 use mathlib.Core.Path.{_≡_, refl, sym, ap, _∙_}
@@ -11,6 +11,7 @@ use lib.Seq.{ext-getD, getD-set-same, getD-set-other, set-at, drop-cons}
 use lib.Dec.{ltb, eqb}
 use borrow.Author.Tests.{ltb-true, lt-ltb, le-ltb, eq-eqb, ne-eqb}
 use Rattle.model.specs.Sets.{bit, tab, memb, upto}
+use Rattle.model.specs.Results.{cell}
 use Rattle.model.proofs.Booleans.{bool-ext}
 
 pub length-tab : (n : ℕ) (S : ℕ → Bool) → length (tab n S) ≡ n
@@ -145,3 +146,19 @@ over-done S d l i n p a b = front-done (λ k. tab k S) d l i p n a b
 -- the front of 256 bytes
 pub tab-front : (n : ℕ) (S : ℕ → Bool) → n ≤ 256 → tab n (memb (tab 256 S)) ≡ tab n S
 tab-front n S h = tab-cong n (memb (tab 256 S)) S (λ i l. memb-tab 256 S i (omega arith))
+
+-- the cells of a table of n rows of n cells: row x begins at x * n
+
+module _ (n x at : ℕ) (e : at ≡ x * n) where
+  pub row-next : at + n ≡ (x + 1) * n
+  row-next = rw (e, add-one x, suc-mul x n)
+
+  pub row-fits : x < n → at + n ≤ n * n
+  row-fits l = rw row-next (mul-le-mul-right n (let h : x + 1 ≤ n = omega arith in h))
+
+  pub cell-at : (R : ℕ → ℕ → Bool) (k : ℕ) → k < n → cell n R (at + k) ≡ R x k
+  unfolding cell
+  cell-at R k l =
+      let d : (x * n + k) / n ≡ x = mul-add-div-right (let h : 0 < n = omega arith in h) x k ∙ rw (div-eq-of-lt l, add-zero x) in
+      let m : (x * n + k) % n ≡ k = mul-add-mod-self-right x n k ∙ mod-eq-of-lt l in
+      rw (e, d, m)

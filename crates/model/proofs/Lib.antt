@@ -6,4 +6,5 @@ pub mod Axes
 pub mod QueryTable
 pub mod Accepted
 pub mod Answers
+pub mod Results
 pub mod Starred

@@ -1,15 +1,17 @@
--- The teaching warehouse and its starred lines, as one list. proofs/Starred.antt proves that every line of the list is correct.
-use Prim.Native.Nat.{ℕ, _*_}
-use mathlib.Core.Bool.{Bool, true, false, cond, not, _&&_, _||_}
+-- The teaching warehouse and its starred lines, as one list: what the services reply, and leave of what each call was lent.
+-- proofs/Starred.antt proves the one claim that every line of the list is correct.
+use Prim.Native.Nat.{ℕ, _+_}
+use mathlib.Core.Path.{_≡_}
+use mathlib.Core.Bool.{Bool, true, false, _||_}
 use mathlib.Core.List.{List, [], _∷_, _++_}
-use lib.ListN.{length, drop, replicate}
+use lib.ListN.{replicate}
 use lib.Dec.{eqb}
 use Rattle.model.specs.declared.Cursor.{Cursor}
 use Rattle.model.specs.Sets.{tab}
 use Rattle.model.specs.Tree.{sizeOf}
-use Rattle.model.specs.Results.{imageBytes}
-use Rattle.model.specs.Answers.{Row, answers}
-use Rattle.model.specs.Pages.{Outcome, paged, flat}
+use Rattle.model.specs.Pages.{Outcome}
+use Rattle.model.specs.Refusals.{reply}
+use Rattle.model.specs.Services.{ImageLeaves, pageOutcome}
 
 -- parent, tag of nodes 0 to 5
 unfoldable pub warehouse : List ℕ
@@ -19,21 +21,15 @@ warehouse = 65535 ∷ 1 ∷ 0 ∷ 2 ∷ 1 ∷ 3 ∷ 1 ∷ 3 ∷ 0 ∷ 2 ∷ 4 �
 unfoldable pub oneNode : List ℕ
 oneNode = 65535 ∷ 1 ∷ []
 
--- a page as the lines tell it: the rows written, and whether there is more
-pub record Page : Type 0 where
-  pub rows : List Row
-  pub more : Bool
-
 -- a starred line
 pub data Line : Type 0 where
-  -- a tree, a query, the start set, and the set that it reaches
+  -- a tree, a query without variables, the nodes of the start set, and the nodes that it reaches
   forwards : List ℕ → List ℕ → List ℕ → List ℕ → Line
-  -- the same, and the set that reaches it
+  -- the same, and the nodes that reach it
   backwards : List ℕ → List ℕ → List ℕ → List ℕ → Line
-  -- a query over the warehouse, its number of variables, and its answers
-  lists : List ℕ → ℕ → List Row → Line
-  -- a query over the warehouse, its number of variables, a cursor, the whole rows that each buffer has room for, and the pages
-  pages : List ℕ → ℕ → Cursor → ℕ → List Page → Line
+  -- a query over the warehouse, its number of variables, a cursor, how many numbers the buffer of each call has, and the outcomes
+  -- of page calls in turn
+  pages : List ℕ → ℕ → Cursor → ℕ → List Outcome → Line
 
 -- x is one of the numbers
 unfoldable pub among : List ℕ → ℕ → Bool
@@ -44,55 +40,39 @@ among (y ∷ ys) x = eqb x y || among ys x
 unfoldable pub setOf : List ℕ → List ℕ → List ℕ
 setOf t xs = tab (sizeOf t) (among xs)
 
--- two lists of numbers are equal
-unfoldable pub same : List ℕ → List ℕ → Bool
-same [] [] = true
-same [] (y ∷ ys) = false
-same (x ∷ xs) [] = false
-same (x ∷ xs) (y ∷ ys) = eqb x y && same xs ys
+-- forwards, or backwards where back is set, accepts the call and writes the second set over the front of the buffer, which has two
+-- bytes more and is lent with 7 in each
+unfoldable pub Reaches : List ℕ → List ℕ → Bool → List ℕ → List ℕ → Type 0
+Reaches t q back from to =
+    ImageLeaves t q 0 [] back (setOf t from) (replicate (sizeOf t + 2) 7) (reply 0 0) (setOf t to ++ (7 ∷ 7 ∷ []))
 
--- two lists of rows are equal
-unfoldable pub sameRows : List Row → List Row → Bool
-sameRows [] [] = true
-sameRows [] (s ∷ ss) = false
-sameRows (r ∷ rs) [] = false
-sameRows (r ∷ rs) (s ∷ ss) = same r s && sameRows rs ss
+-- page calls in turn, each lent the cursor that the one before it left and a buffer with 7 in each number, have these outcomes
+unfoldable pub InTurn : List ℕ → ℕ → Cursor → ℕ → List Outcome → Type 0
+InTurn q k c room [] = Unit
+InTurn q k c room (o ∷ os) = (pageOutcome warehouse q k c (replicate room 7) ≡ o) × InTurn q k (o .cursor) room os
 
--- a call wrote the page over the front of the buffer, and told its count and whether there is more
-unfoldable pub showsPage : List ℕ → Page → Outcome → Bool
-showsPage buffer p o =
-    same (o .buffer) (flat (p .rows) ++ drop (length (flat (p .rows))) buffer)
-    && (eqb (o .count) (length (p .rows)) && cond (p .more) (o .more) (not (o .more)))
-
--- page calls in turn, each with the cursor that the one before it left
-unfoldable pub showsPages : ℕ → List Row → Cursor → List ℕ → List Page → Bool
-showsPages k rows c buffer [] = true
-showsPages k rows c buffer (p ∷ ps) =
-    showsPage buffer p (paged k rows c buffer) && showsPages k rows (paged k rows c buffer .cursor) buffer ps
-
--- the line is correct, by the definitions of the meaning
-unfoldable pub correct : Line → Bool
-correct (forwards t q from to) = same (imageBytes t q [] false (setOf t from)) (setOf t to)
-correct (backwards t q from to) = same (imageBytes t q [] true (setOf t from)) (setOf t to)
-correct (lists q k rows) = sameRows (answers warehouse q k) rows
-correct (pages q k c room ps) = showsPages k (answers warehouse q k) c (replicate (room * k) 7) ps
+-- the line is what the services do
+unfoldable pub Correct : Line → Type 0
+Correct (forwards t q from to) = Reaches t q false from to
+Correct (backwards t q from to) = Reaches t q true from to
+Correct (pages q k c room os) = InTurn q k c room os
 
 -- every line of the list is correct
-unfoldable pub allCorrect : List Line → Bool
-allCorrect [] = true
-allCorrect (l ∷ ls) = correct l && allCorrect ls
+unfoldable pub AllCorrect : List Line → Type 0
+AllCorrect [] = Unit
+AllCorrect (l ∷ ls) = Correct l × AllCorrect ls
 
--- a fresh cursor (document 01: a fresh walk)
+-- a cursor that has not begun (document 01: a fresh walk); its numbers are of no account, and are no nodes here
 abbrev pub fresh : Cursor
-fresh = record { begun = 0; first = 0; second = 0; third = 0 }
+fresh = record { begun = 0; first = 9; second = 9; third = 9 }
 
--- a cursor begun at the row (a, b)
+-- a cursor begun at the row (a, b), or for one variable at (a); the numbers beyond the row are of no account
 abbrev pub begunAt : ℕ → ℕ → Cursor
-begunAt a b = record { begun = 1; first = a; second = b; third = 0 }
+begunAt a b = record { begun = 1; first = a; second = b; third = 9 }
 
--- the page of these rows
-abbrev pub page : List Row → Bool → Page
-page rows more = record { rows = rows; more = more }
+-- the outcome of an accepted page call: how many rows it wrote, whether there is more, and the cursor and the buffer as it left them
+abbrev pub page : ℕ → Bool → Cursor → List ℕ → Outcome
+page count more c buffer = record { number = 0; place = 0; count = count; more = more; cursor = c; buffer = buffer }
 
 -- the queries of the lines, four numbers an entry: kind, left, right, tag
 
@@ -163,6 +143,14 @@ bayAndPallet =
     ∷ 1 ∷ 2 ∷ 5 ∷ 0
     ∷ []
 
+-- the pages of these rows with room for two rows and one number: (1, 2) and (1, 3), and there is more; (4, 5); none
+unfoldable pub pagesOfTwo : List Outcome
+pagesOfTwo =
+    page 2 true (begunAt 1 3) (1 ∷ 2 ∷ 1 ∷ 3 ∷ 7 ∷ [])
+    ∷ page 1 false (begunAt 4 5) (4 ∷ 5 ∷ 7 ∷ 7 ∷ 7 ∷ [])
+    ∷ page 0 false (begunAt 4 5) (7 ∷ 7 ∷ 7 ∷ 7 ∷ 7 ∷ [])
+    ∷ []
+
 -- the starred lines, in document 01's order
 unfoldable pub starred : List Line
 starred =
@@ -177,9 +165,9 @@ starred =
     ∷ forwards warehouse lastBay (0 ∷ []) (4 ∷ [])
     ∷ forwards warehouse rootBays (5 ∷ []) (1 ∷ 4 ∷ [])
     ∷ forwards oneNode parentAny (0 ∷ []) []
-    ∷ lists (selfOrBay 1) 1 ((0 ∷ []) ∷ (1 ∷ []) ∷ (2 ∷ []) ∷ (3 ∷ []) ∷ (4 ∷ []) ∷ (5 ∷ []) ∷ [])
-    ∷ lists (selfOrBay 9) 1 ((1 ∷ []) ∷ (4 ∷ []) ∷ [])
-    ∷ lists bayAndPallet 2 ((1 ∷ 2 ∷ []) ∷ (1 ∷ 3 ∷ []) ∷ (4 ∷ 5 ∷ []) ∷ [])
-    ∷ pages bayAndPallet 2 fresh 2 (page ((1 ∷ 2 ∷ []) ∷ (1 ∷ 3 ∷ []) ∷ []) true ∷ page ((4 ∷ 5 ∷ []) ∷ []) false ∷ page [] false ∷ [])
-    ∷ pages bayAndPallet 2 (begunAt 1 4) 2 (page ((4 ∷ 5 ∷ []) ∷ []) false ∷ [])
+    ∷ pages (selfOrBay 1) 1 fresh 7 (page 6 false (begunAt 5 9) (0 ∷ 1 ∷ 2 ∷ 3 ∷ 4 ∷ 5 ∷ 7 ∷ []) ∷ [])
+    ∷ pages (selfOrBay 9) 1 fresh 7 (page 2 false (begunAt 4 9) (1 ∷ 4 ∷ 7 ∷ 7 ∷ 7 ∷ 7 ∷ 7 ∷ []) ∷ [])
+    ∷ pages bayAndPallet 2 fresh 8 (page 3 false (begunAt 4 5) (1 ∷ 2 ∷ 1 ∷ 3 ∷ 4 ∷ 5 ∷ 7 ∷ 7 ∷ []) ∷ [])
+    ∷ pages bayAndPallet 2 fresh 5 pagesOfTwo
+    ∷ pages bayAndPallet 2 (begunAt 1 4) 5 (page 1 false (begunAt 4 5) (4 ∷ 5 ∷ 7 ∷ 7 ∷ 7 ∷ []) ∷ [])
     ∷ []

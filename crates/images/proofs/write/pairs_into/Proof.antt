@@ -8,8 +8,8 @@ use borrow.Author.Needs.{needs}
 use Rattle.model.specs.Sets.{tab}
 use Rattle.model.specs.QueryTable.{lastOf}
 use Rattle.model.specs.Results.{related, cell}
-use Rattle.model.proofs.Bytes.{over-start}
-use Rattle.images.proofs.Tables.{row-room, row-fits, row-over, row-next, rows-length, rows-end}
+use Rattle.model.proofs.Bytes.{over-start, row-next, row-fits}
+use Rattle.images.proofs.Tables.{row-room, row-over, rows-length, rows-end}
 use Rattle.images.proofs.write.pairs_into.Statement.{statement}
 use Rattle.images.proofs.write.pairs_into.Tie as tie
 
