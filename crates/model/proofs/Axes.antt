@@ -2,16 +2,17 @@
 use Prim.Native.Nat.{ℕ, zero, suc, _+_, _*_, _≤_, _<_}
 use native.Mathlib.Nat.{not-suc-le-zero}
 use native.Mathlib.Omega.{arith}
-use mathlib.Core.Path.{_≡_, refl, sym}
-use mathlib.Core.Logic.{⊎-elim}
+use mathlib.Core.Path.{_≡_, refl, sym, _∙_}
+use mathlib.Core.Logic.{_⊎_, ⊎-elim, _↔_, Iff·rfl}
 use mathlib.Core.Bool.{Bool, true, false, not, _&&_, _||_}
 use lib.Dec.{ltb, eqb}
 use borrow.Author.Tests.{lt-ltb, le-ltb, ltb-true, ltb-false, eqb-true, eq-eqb, ne-eqb}
-use Rattle.model.specs.Sets.{bit}
+use Rattle.model.specs.Sets.{any, bit}
 use Rattle.model.specs.Tree.{Tree}
-use Rattle.model.specs.Axes.{climbs, self, descendant, ancestor, following, preceding, descendantOrSelf, ancestorOrSelf, axis}
+use Rattle.model.specs.Axes.{climbs, self, child, followingSibling, right, descendant, ancestor, following, preceding, descendantOrSelf, ancestorOrSelf, axis}
 use Rattle.model.specs.Accepted.{Sound, Falling}
-use Rattle.model.proofs.Booleans.{Seen, yes!, no!, seen, no-yes, bool-ext, yes-left, yes-right, or-cases, not-yes}
+use Rattle.model.proofs.Booleans.{Seen, yes!, no!, seen, no-yes, bool-ext, both-yes, yes-left, yes-right, or-cases, not-yes, and-says, or-says, not-says, eqb-says, ltb-says}
+use Rattle.model.proofs.Exists.{any-intro, any-both}
 
 -- node 0 has no ancestor, whatever the fuel
 climb-zero : (d : Tree) (k x : ℕ) → climbs d k x 0 ≡ false
@@ -74,6 +75,88 @@ descendant-after t s x y l h = descendant-lower t y (sound-falling t y s l) x y 
 
 pub eqb-comm : (x y : ℕ) → eqb x y ≡ eqb y x
 eqb-comm x y = bool-ext (eqb x y) (eqb y x) (λ p. eq-eqb y x (sym (eqb-true x y p))) (λ p. eq-eqb x y (sym (eqb-true y x p)))
+
+-- for the reader: the axes by their codes, in document 01's words; the even ones are the converses, below
+
+module _ (t : Tree) where
+  pub self-axis : (x y : ℕ) → (axis t 0 x y ≡ true) ↔ (x ≡ y)
+  unfolding axis
+  self-axis x y = eqb-says x y
+
+  -- x is y's parent
+  pub child-axis : (x y : ℕ) → (axis t 1 x y ≡ true) ↔ ((0 < y) × (t .parent y ≡ x))
+  unfolding axis child
+  child-axis x y = and-says (ltb 0 y) (eqb (t .parent y) x) (ltb-says 0 y) (eqb-says (t .parent y) x)
+
+  sibling-parts : (x y : ℕ) → (axis t 9 x y ≡ true) ↔ ((0 < x) × ((x < y) × (t .parent x ≡ t .parent y)))
+  unfolding axis followingSibling
+  sibling-parts x y =
+      and-says (ltb 0 x) (ltb x y && eqb (t .parent x) (t .parent y)) (ltb-says 0 x)
+      (and-says (ltb x y) (eqb (t .parent x) (t .parent y)) (ltb-says x y) (eqb-says (t .parent x) (t .parent y)))
+
+  -- a later node with the same parent
+  pub sibling-axis : (x y : ℕ) → (axis t 9 x y ≡ true) ↔ ((x < y) × ((p : ℕ) × (axis t 1 p x ≡ true) × (axis t 1 p y ≡ true)))
+  sibling-axis x y = (
+    λ h.
+        let (z, (l, e)) = sibling-parts x y .0 h in
+        (l, (t .parent x, child-axis (t .parent x) x .1 (z, refl), child-axis (t .parent x) y .1 (omega arith, sym e))),
+    λ w.
+        let (l, (p, a, b)) = w in
+        let (z, e) = child-axis p x .0 a in
+        sibling-parts x y .1 (z, (l, e ∙ sym (child-axis p y .0 b .1))),
+  )
+
+  -- of two later siblings, the later is one of the earlier
+  sibling-between : (x y z : ℕ) → axis t 9 x y ≡ true → axis t 9 x z ≡ true → z < y → axis t 9 z y ≡ true
+  sibling-between x y z a b l =
+      let u = sibling-parts x y .0 a in
+      let (h, (m, e)) = sibling-parts x z .0 b in
+      sibling-parts z y .1 (omega arith, (l, sym e ∙ u .1 .1))
+
+  -- the one next sibling: a later sibling, and none comes before it
+  pub right-axis : (x y : ℕ) → (axis t 3 x y ≡ true) ↔ ((axis t 9 x y ≡ true) × ((z : ℕ) → z < t .size → axis t 9 x z ≡ true → y ≤ z))
+  unfolding axis right
+  right-axis x y = (
+    λ h.
+        let (a, n) = and-says (followingSibling t x y) (not between) Iff·rfl (not-says between) .0 h in
+        (a, λ z l k. first z l k a n (seen (ltb z y))),
+    λ w.
+        both-yes (w .0)
+        (rw (not-yes between (λ h. let (z, l, a, b) = any-both (t .size) (followingSibling t x) (λ z. followingSibling t z y) .0 h in omega (arith, w .1 z l a, sibling-parts z y .0 b .1 .0)))),
+  )
+    where
+      between : Bool
+      between = any (t .size) (λ z. followingSibling t x z && followingSibling t z y)
+
+      first : (z : ℕ) → z < t .size → axis t 9 x z ≡ true → axis t 9 x y ≡ true → between ≡ false → Seen (ltb z y) → y ≤ z
+      first z l k a n (no! e) = ltb-false z y e
+      first z l k a n (yes! e) =
+          no-yes n (any-intro (t .size) (λ z. followingSibling t x z && followingSibling t z y) z l (both-yes k (sibling-between x y z a k (ltb-true z y e))))
+
+  descendant-parent : Sound t → (x y : ℕ) → 0 < y → y < t .size → descendant t x y ≡ descendantOrSelf t x (t .parent y)
+  unfolding descendantOrSelf
+  descendant-parent s x y p l = descendant-step t y (sound-falling t y s l) x y p l (omega arith) ∙ rw (eqb-comm (t .parent y) x)
+
+  -- y's parent is x or a descendant of x
+  pub descendant-axis : Sound t → (x y : ℕ) → y < t .size → (axis t 5 x y ≡ true) ↔ ((z : ℕ) × (axis t 1 z y ≡ true) × (axis t 11 x z ≡ true))
+  unfolding axis
+  descendant-axis s x y l = (down (seen (ltb 0 y)), up)
+    where
+      down : Seen (ltb 0 y) → axis t 5 x y ≡ true → (z : ℕ) × (axis t 1 z y ≡ true) × (axis t 11 x z ≡ true)
+      down (yes! p) h = (t .parent y, child-axis (t .parent y) y .1 (ltb-true 0 y p, refl), sym (descendant-parent s x y (ltb-true 0 y p) l) ∙ h)
+      down (no! p) h = no-yes (rw (let e : y ≡ 0 = omega (arith, ltb-false 0 y p) in e) (descendant-zero t x)) h
+
+      up : (z : ℕ) × (axis t 1 z y ≡ true) × (axis t 11 x z ≡ true) → axis t 5 x y ≡ true
+      up (z, a, b) = let u = child-axis z y .0 a in descendant-parent s x y (u .0) l ∙ rw (u .1) b
+
+  pub descendant-or-self-axis : (x y : ℕ) → (axis t 11 x y ≡ true) ↔ ((x ≡ y) ⊎ (axis t 5 x y ≡ true))
+  unfolding axis descendantOrSelf
+  descendant-or-self-axis x y = or-says (self t x y) (descendant t x y) (eqb-says x y) Iff·rfl
+
+  -- every later node that is no descendant
+  pub following-axis : (x y : ℕ) → (axis t 7 x y ≡ true) ↔ ((x < y) × (axis t 5 x y ≡ false))
+  unfolding axis following
+  following-axis x y = and-says (ltb x y) (not (descendant t x y)) (ltb-says x y) (not-says (descendant t x y))
 
 -- for the reader: self is its own converse
 pub self-converse : (t : Tree) (x y : ℕ) → axis t 0 x y ≡ axis t 0 y x

@@ -1,7 +1,10 @@
 -- Laws of Boolean tests.
+use Prim.Native.Nat.{ℕ, _<_}
 use mathlib.Core.Path.{_≡_, refl, sym, _∙_}
-use mathlib.Core.Logic.{_⊎_}
-use mathlib.Core.Bool.{Bool, true, false, _&&_, _||_, true≢false}
+use mathlib.Core.Logic.{_⊎_, ⊎-elim, _↔_}
+use mathlib.Core.Bool.{Bool, true, false, not, _&&_, _||_, true≢false}
+use lib.Dec.{ltb, eqb}
+use borrow.Author.Tests.{not-true, eqb-true, eq-eqb, ltb-true, lt-ltb}
 
 -- a test, with what it came to
 pub data Seen (b : Bool) : Type 0 where
@@ -55,3 +58,21 @@ no-or false b h = (refl, h)
 pub guarded : (a b : Bool) → (a && b) ≡ false → a ≡ true → b ≡ false
 guarded true b h p = h
 guarded false b h p = no-yes refl p
+
+-- what a test says
+
+pub and-says : (a b : Bool) {A B : Type 0} → ((a ≡ true) ↔ A) → ((b ≡ true) ↔ B) → ((a && b) ≡ true) ↔ (A × B)
+and-says a b h k = (λ p. (h .0 (yes-left a b p), k .0 (yes-right a b p)), λ p. both-yes (h .1 (p .0)) (k .1 (p .1)))
+
+pub or-says : (a b : Bool) {A B : Type 0} → ((a ≡ true) ↔ A) → ((b ≡ true) ↔ B) → ((a || b) ≡ true) ↔ (A ⊎ B)
+or-says a b h k =
+    (λ p. ⊎-elim (λ q. _⊎_.inl (h .0 q)) (λ q. _⊎_.inr (k .0 q)) (or-cases a b p), ⊎-elim (λ q. or-left a b (h .1 q)) (λ q. or-right a b (k .1 q)))
+
+pub not-says : (b : Bool) → (not b ≡ true) ↔ (b ≡ false)
+not-says b = (not-true b, λ h. rw h)
+
+pub eqb-says : (x y : ℕ) → (eqb x y ≡ true) ↔ (x ≡ y)
+eqb-says x y = (eqb-true x y, eq-eqb x y)
+
+pub ltb-says : (x y : ℕ) → (ltb x y ≡ true) ↔ (x < y)
+ltb-says x y = (ltb-true x y, lt-ltb x y)

@@ -4,7 +4,7 @@ use native.Mathlib.Nat.{not-suc-le-zero, le-of-suc-le-suc, eq-or-lt-of-le}
 use native.Mathlib.Numerals.{add-one}
 use native.Mathlib.Omega.{arith}
 use mathlib.Core.Path.{_≡_, refl, sym, ap, _∙_, subst}
-use mathlib.Core.Logic.{⊎-elim}
+use mathlib.Core.Logic.{⊎-elim, _↔_}
 use mathlib.Core.Bool.{Bool, true, false, _&&_, _||_, cond, and-comm}
 use lib.Dec.{eqb}
 use borrow.Author.Tests.{eq-eqb, eqb-true}
@@ -34,8 +34,15 @@ any-cong zero f g h = refl
 any-cong (suc n) f g h = rw (h n (omega arith), any-cong n f g (λ x l. h x (omega arith)))
 
 -- for the reader: the test any n f holds exactly if some x below n passes f
-pub any-iff : (n : ℕ) (f : ℕ → Bool) → (any n f ≡ true → (x : ℕ) × (x < n) × (f x ≡ true)) × ((x : ℕ) × (x < n) × (f x ≡ true) → any n f ≡ true)
+pub any-iff : (n : ℕ) (f : ℕ → Bool) → (any n f ≡ true) ↔ ((x : ℕ) × (x < n) × (f x ≡ true))
 any-iff n f = (any-elim n f, λ w. any-intro n f (w .0) (w .1) (w .2))
+
+-- the same where x passes two tests
+pub any-both : (n : ℕ) (f g : ℕ → Bool) → (any n (λ x. f x && g x) ≡ true) ↔ ((x : ℕ) × (x < n) × (f x ≡ true) × (g x ≡ true))
+any-both n f g = (
+  λ h. let (x, l, p) = any-elim n (λ x. f x && g x) h in (x, l, yes-left (f x) (g x) p, yes-right (f x) (g x) p),
+  λ w. any-intro n (λ x. f x && g x) (w .0) (w .1) (both-yes (w .2) (w .3)),
+)
 
 -- a search from the front: none below i, and not i
 pub any-more : (i : ℕ) (f : ℕ → Bool) → any i f ≡ false → f i ≡ false → any (i + 1) f ≡ false

@@ -3,6 +3,7 @@ pub mod Exists
 pub mod Bytes
 pub mod Refusals
 pub mod Axes
+pub mod Meaning
 pub mod QueryTable
 pub mod Accepted
 pub mod Answers

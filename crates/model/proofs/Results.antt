@@ -21,8 +21,8 @@ use Rattle.model.specs.Pages.{unpaged}
 use Rattle.model.specs.Refusals.{verdict, written}
 use Rattle.model.specs.Checks.{treeChecks, queryChecks, nodeChecks, badByte, setChecks, roomChecks, tableChecks, imageChecks, pairsChecks, pageChecks}
 use Rattle.model.specs.Services.{imageReply, imageBuffer, pairsReply, pairsBuffer, pageOutcome}
-use Rattle.model.proofs.Booleans.{Seen, yes!, no!, seen, no-yes, both-yes, yes-left, yes-right}
-use Rattle.model.proofs.Exists.{any-intro, any-elim, none-of}
+use Rattle.model.proofs.Booleans.{Seen, yes!, no!, seen, no-yes, both-yes, yes-right}
+use Rattle.model.proofs.Exists.{any-both, none-of}
 use Rattle.model.proofs.Bytes.{length-tab, getD-tab, memb-yes, memb-no, row-fits, cell-at}
 use Rattle.model.proofs.Refusals.{Passes, numbered, accepted, Passes-front, written-not}
 
@@ -71,9 +71,9 @@ module _ (n : ℕ) (R : ℕ → ℕ → Bool) (s : List ℕ) (low : (x : ℕ) �
   unfolding image upto
   image-of y l = (
     λ h.
-        let (x, k, p) = any-elim n (λ x. memb s x && R x y) (yes-right (ltb y n) (any n (λ x. memb s x && R x y)) h) in
-        (x, k, in-set x k .0 (yes-left (memb s x) (R x y) p), yes-right (memb s x) (R x y) p),
-    λ w. both-yes (lt-ltb y n l) (any-intro n (λ x. memb s x && R x y) (w .0) (w .1) (both-yes (in-set (w .0) (w .1) .1 (w .2)) (w .3))),
+        let (x, k, p, r) = any-both n (memb s) (λ x. R x y) .0 (yes-right (ltb y n) (any n (λ x. memb s x && R x y)) h) in
+        (x, k, in-set x k .0 p, r),
+    λ w. both-yes (lt-ltb y n l) (any-both n (memb s) (λ x. R x y) .1 (w .0, w .1, in-set (w .0) (w .1) .1 (w .2), w .3)),
   )
 
 -- A call of forwards or backwards that is accepted.

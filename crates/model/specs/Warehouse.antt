@@ -70,6 +70,10 @@ fresh = record { begun = 0; first = 9; second = 9; third = 9 }
 abbrev pub begunAt : ℕ → ℕ → Cursor
 begunAt a b = record { begun = 1; first = a; second = b; third = 9 }
 
+-- a cursor begun at (1, 4), which is no answer; every byte but 0 says that it has begun
+abbrev pub between : Cursor
+between = record { begun = 130; first = 1; second = 4; third = 9 }
+
 -- the outcome of an accepted page call: how many rows it wrote, whether there is more, and the cursor and the buffer as it left them
 abbrev pub page : ℕ → Bool → Cursor → List ℕ → Outcome
 page count more c buffer = record { number = 0; place = 0; count = count; more = more; cursor = c; buffer = buffer }
@@ -169,5 +173,5 @@ starred =
     ∷ pages (selfOrBay 9) 1 fresh 7 (page 2 false (begunAt 4 9) (1 ∷ 4 ∷ 7 ∷ 7 ∷ 7 ∷ 7 ∷ 7 ∷ []) ∷ [])
     ∷ pages bayAndPallet 2 fresh 8 (page 3 false (begunAt 4 5) (1 ∷ 2 ∷ 1 ∷ 3 ∷ 4 ∷ 5 ∷ 7 ∷ 7 ∷ []) ∷ [])
     ∷ pages bayAndPallet 2 fresh 5 pagesOfTwo
-    ∷ pages bayAndPallet 2 (begunAt 1 4) 5 (page 1 false (begunAt 4 5) (4 ∷ 5 ∷ 7 ∷ 7 ∷ 7 ∷ []) ∷ [])
+    ∷ pages bayAndPallet 2 between 5 (page 1 false (begunAt 4 5) (4 ∷ 5 ∷ 7 ∷ 7 ∷ 7 ∷ []) ∷ [])
     ∷ []
