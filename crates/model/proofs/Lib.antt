@@ -9,3 +9,4 @@ pub mod Accepted
 pub mod Answers
 pub mod Results
 pub mod Starred
+pub mod Replies

@@ -11,4 +11,5 @@ pub mod Refusals
 pub mod Checks
 pub mod Services
 pub mod Warehouse
+pub mod Replies
 pub mod Accepted

@@ -1,0 +1,74 @@
+-- Calls with the reply that document 01 has for each: tables at the limits of what is accepted, then some calls for each of the
+-- refusals 5 to 20. proofs/Replies.antt proves the one claim that every call of the list gets its reply.
+use Prim.Native.Nat.{ℕ, zero, suc, _-_, _*_}
+use mathlib.Core.List.{List, [], _∷_}
+use lib.ListN.{replicate}
+use Rattle.model.specs.declared.Reply.{Reply}
+use Rattle.model.specs.Pages.{flat}
+use Rattle.model.specs.Refusals.{Check, reply, verdict}
+use Rattle.model.specs.Checks.{treeChecks, queryChecks, imageChecks, pairsChecks, pageChecks}
+use Rattle.model.specs.Warehouse.{warehouse, childPallet, selfOrBay, bayAndPallet, fresh, begunAt}
+
+-- a call: its checks, and the number and the place that are due
+pub data Judged : Type 0 where
+  call : List Check → ℕ → ℕ → Judged
+
+-- the reply that the checks give
+unfoldable pub given : Judged → Reply
+given (call cs number place) = verdict cs
+
+-- the reply that is due
+unfoldable pub due : Judged → Reply
+due (call cs number place) = reply number place
+
+-- the set of no node of the warehouse
+abbrev pub empty : List ℕ
+empty = replicate 6 0
+
+-- a tree of node 0 and m children
+unfoldable pub star : ℕ → List ℕ
+star m = 65535 ∷ 1 ∷ flat (replicate m (0 ∷ 2 ∷ []))
+
+-- m entries from entry i on, each the one before it from the root
+unfoldable pub roots : ℕ → ℕ → List ℕ
+roots i zero = []
+roots i (suc m) = 7 ∷ (i - 1) ∷ 0 ∷ 0 ∷ roots (suc i) m
+
+-- the calls, in the order of their numbers
+unfoldable pub calls : List Judged
+calls =
+    call (treeChecks (star 255)) 0 0
+    ∷ call (queryChecks (0 ∷ 1 ∷ 0 ∷ 3 ∷ roots 1 63) 0 0) 0 0
+    ∷ call (treeChecks []) 5 0
+    ∷ call (treeChecks (65535 ∷ 1 ∷ 0 ∷ [])) 5 0
+    ∷ call (treeChecks (replicate (2 * 257) 0)) 5 0
+    ∷ call (treeChecks (0 ∷ 1 ∷ [])) 6 0
+    ∷ call (treeChecks (65535 ∷ 1 ∷ 1 ∷ 2 ∷ [])) 6 1
+    ∷ call (treeChecks (65535 ∷ 1 ∷ 0 ∷ 2 ∷ 0 ∷ 2 ∷ 1 ∷ 3 ∷ [])) 6 3
+    ∷ call (treeChecks (65535 ∷ 65534 ∷ 1 ∷ 2 ∷ [])) 6 1
+    ∷ call (treeChecks (65535 ∷ 1 ∷ 0 ∷ 65534 ∷ 0 ∷ 65535 ∷ [])) 7 1
+    ∷ call (queryChecks [] 0 0) 8 0
+    ∷ call (queryChecks (0 ∷ 1 ∷ 0 ∷ 3 ∷ 0 ∷ []) 0 0) 8 0
+    ∷ call (queryChecks (replicate (4 * 65) 0) 0 0) 8 0
+    ∷ call (queryChecks childPallet 0 4) 9 0
+    ∷ call (pageChecks warehouse childPallet 0 fresh 1) 9 0
+    ∷ call (queryChecks (13 ∷ 0 ∷ 0 ∷ 0 ∷ []) 0 0) 10 0
+    ∷ call (queryChecks (0 ∷ 13 ∷ 0 ∷ 3 ∷ []) 0 0) 11 0
+    ∷ call (queryChecks (0 ∷ 1 ∷ 0 ∷ 65534 ∷ []) 0 0) 11 0
+    ∷ call (queryChecks (0 ∷ 1 ∷ 1 ∷ 3 ∷ []) 0 0) 11 0
+    ∷ call (queryChecks (6 ∷ 0 ∷ 0 ∷ 1 ∷ []) 0 1) 11 0
+    ∷ call (queryChecks (selfOrBay 1) 0 0) 11 2
+    ∷ call (queryChecks (0 ∷ 1 ∷ 0 ∷ 3 ∷ 7 ∷ 1 ∷ 0 ∷ 0 ∷ []) 0 0) 12 1
+    ∷ call (queryChecks (0 ∷ 1 ∷ 0 ∷ 3 ∷ 0 ∷ 1 ∷ 0 ∷ 3 ∷ 5 ∷ 0 ∷ 1 ∷ 0 ∷ []) 0 0) 13 2
+    ∷ call (queryChecks (0 ∷ 1 ∷ 0 ∷ 3 ∷ 0 ∷ 1 ∷ 0 ∷ 3 ∷ []) 0 0) 14 0
+    ∷ call (queryChecks (0 ∷ 1 ∷ 0 ∷ 3 ∷ 2 ∷ 0 ∷ 0 ∷ 0 ∷ []) 0 0) 14 0
+    ∷ call (queryChecks (0 ∷ 1 ∷ 0 ∷ 3 ∷ 8 ∷ 0 ∷ 0 ∷ 0 ∷ []) 0 0) 15 1
+    ∷ call (imageChecks warehouse (selfOrBay 1) 1 [] empty 6) 16 0
+    ∷ call (imageChecks warehouse bayAndPallet 2 (5 ∷ 6 ∷ []) empty 6) 17 1
+    ∷ call (pageChecks warehouse bayAndPallet 2 (begunAt 5 6) 2) 17 1
+    ∷ call (imageChecks warehouse childPallet 0 [] (0 ∷ empty) 6) 18 0
+    ∷ call (imageChecks warehouse childPallet 0 [] (0 ∷ 1 ∷ 2 ∷ 3 ∷ 0 ∷ 0 ∷ []) 5) 19 2
+    ∷ call (imageChecks warehouse childPallet 0 [] empty 5) 20 0
+    ∷ call (pairsChecks warehouse childPallet 0 [] 35) 20 0
+    ∷ call (pageChecks warehouse bayAndPallet 2 fresh 1) 20 0
+    ∷ []
