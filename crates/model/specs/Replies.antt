@@ -1,5 +1,6 @@
 -- Calls with the reply that document 01 has for each: tables at the limits of what is accepted, then some calls for each of the
--- refusals 5 to 20. proofs/Replies.antt proves the one claim that every call of the list gets its reply.
+-- refusals 5 to 20, most with something wrong that a later check would tell. proofs/Replies.antt proves the one claim that every
+-- call of the list gets its reply.
 use Prim.Native.Nat.{ℕ, zero, suc, _-_, _*_}
 use mathlib.Core.List.{List, [], _∷_}
 use lib.ListN.{replicate}
@@ -39,7 +40,8 @@ unfoldable pub calls : List Judged
 calls =
     call (treeChecks (star 255)) 0 0
     ∷ call (queryChecks (0 ∷ 1 ∷ 0 ∷ 3 ∷ roots 1 63) 0 0) 0 0
-    ∷ call (treeChecks []) 5 0
+    ∷ call (imageChecks [] [] 4 [] [] 0) 5 0
+    ∷ call (pageChecks [] [] 4 fresh 0) 5 0
     ∷ call (treeChecks (65535 ∷ 1 ∷ 0 ∷ [])) 5 0
     ∷ call (treeChecks (replicate (2 * 257) 0)) 5 0
     ∷ call (treeChecks (0 ∷ 1 ∷ [])) 6 0
@@ -47,7 +49,7 @@ calls =
     ∷ call (treeChecks (65535 ∷ 1 ∷ 0 ∷ 2 ∷ 0 ∷ 2 ∷ 1 ∷ 3 ∷ [])) 6 3
     ∷ call (treeChecks (65535 ∷ 65534 ∷ 1 ∷ 2 ∷ [])) 6 1
     ∷ call (treeChecks (65535 ∷ 1 ∷ 0 ∷ 65534 ∷ 0 ∷ 65535 ∷ [])) 7 1
-    ∷ call (queryChecks [] 0 0) 8 0
+    ∷ call (imageChecks warehouse [] 4 (9 ∷ []) [] 0) 8 0
     ∷ call (queryChecks (0 ∷ 1 ∷ 0 ∷ 3 ∷ 0 ∷ []) 0 0) 8 0
     ∷ call (queryChecks (replicate (4 * 65) 0) 0 0) 8 0
     ∷ call (queryChecks childPallet 0 4) 9 0
@@ -63,11 +65,11 @@ calls =
     ∷ call (queryChecks (0 ∷ 1 ∷ 0 ∷ 3 ∷ 0 ∷ 1 ∷ 0 ∷ 3 ∷ []) 0 0) 14 0
     ∷ call (queryChecks (0 ∷ 1 ∷ 0 ∷ 3 ∷ 2 ∷ 0 ∷ 0 ∷ 0 ∷ []) 0 0) 14 0
     ∷ call (queryChecks (0 ∷ 1 ∷ 0 ∷ 3 ∷ 8 ∷ 0 ∷ 0 ∷ 0 ∷ []) 0 0) 15 1
-    ∷ call (imageChecks warehouse (selfOrBay 1) 1 [] empty 6) 16 0
-    ∷ call (imageChecks warehouse bayAndPallet 2 (5 ∷ 6 ∷ []) empty 6) 17 1
-    ∷ call (pageChecks warehouse bayAndPallet 2 (begunAt 5 6) 2) 17 1
-    ∷ call (imageChecks warehouse childPallet 0 [] (0 ∷ empty) 6) 18 0
-    ∷ call (imageChecks warehouse childPallet 0 [] (0 ∷ 1 ∷ 2 ∷ 3 ∷ 0 ∷ 0 ∷ []) 5) 19 2
+    ∷ call (imageChecks warehouse (selfOrBay 1) 1 [] [] 0) 16 0
+    ∷ call (imageChecks warehouse bayAndPallet 2 (5 ∷ 6 ∷ []) [] 0) 17 1
+    ∷ call (pageChecks warehouse bayAndPallet 2 (begunAt 5 6) 0) 17 1
+    ∷ call (imageChecks warehouse childPallet 0 [] (2 ∷ empty) 0) 18 0
+    ∷ call (imageChecks warehouse childPallet 0 [] (0 ∷ 1 ∷ 2 ∷ 3 ∷ 0 ∷ 0 ∷ []) 0) 19 2
     ∷ call (imageChecks warehouse childPallet 0 [] empty 5) 20 0
     ∷ call (pairsChecks warehouse childPallet 0 [] 35) 20 0
     ∷ call (pageChecks warehouse bayAndPallet 2 fresh 1) 20 0
