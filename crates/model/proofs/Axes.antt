@@ -79,11 +79,12 @@ eqb-comm x y = bool-ext (eqb x y) (eqb y x) (λ p. eq-eqb y x (sym (eqb-true x y
 -- for the reader: the axes by their codes, in document 01's words; the even ones are the converses, below
 
 module _ (t : Tree) where
+  -- 0, self: x itself
   pub self-axis : (x y : ℕ) → (axis t 0 x y ≡ true) ↔ (x ≡ y)
   unfolding axis
   self-axis x y = eqb-says x y
 
-  -- x is y's parent
+  -- 1, child: y's parent is x
   pub child-axis : (x y : ℕ) → (axis t 1 x y ≡ true) ↔ ((0 < y) × (t .parent y ≡ x))
   unfolding axis child
   child-axis x y = and-says (ltb 0 y) (eqb (t .parent y) x) (ltb-says 0 y) (eqb-says (t .parent y) x)
@@ -94,7 +95,7 @@ module _ (t : Tree) where
       and-says (ltb 0 x) (ltb x y && eqb (t .parent x) (t .parent y)) (ltb-says 0 x)
       (and-says (ltb x y) (eqb (t .parent x) (t .parent y)) (ltb-says x y) (eqb-says (t .parent x) (t .parent y)))
 
-  -- a later node with the same parent
+  -- 9, following-sibling: a later node with the same parent
   pub sibling-axis : (x y : ℕ) → (axis t 9 x y ≡ true) ↔ ((x < y) × ((p : ℕ) × (axis t 1 p x ≡ true) × (axis t 1 p y ≡ true)))
   sibling-axis x y = (
     λ h.
@@ -113,7 +114,7 @@ module _ (t : Tree) where
       let (h, (m, e)) = sibling-parts x z .0 b in
       sibling-parts z y .1 (omega arith, (l, sym e ∙ u .1 .1))
 
-  -- the one next sibling: a later sibling, and none comes before it
+  -- 3, right: the one next sibling, which is a following one that none comes before
   pub right-axis : (x y : ℕ) → (axis t 3 x y ≡ true) ↔ ((axis t 9 x y ≡ true) × ((z : ℕ) → z < t .size → axis t 9 x z ≡ true → y ≤ z))
   unfolding axis right
   right-axis x y = (
@@ -137,7 +138,7 @@ module _ (t : Tree) where
   unfolding descendantOrSelf
   descendant-parent s x y p l = descendant-step t y (sound-falling t y s l) x y p l (omega arith) ∙ rw (eqb-comm (t .parent y) x)
 
-  -- y's parent is x or a descendant of x
+  -- 5, descendant: y's parent is x or a descendant of x
   pub descendant-axis : Sound t → (x y : ℕ) → y < t .size → (axis t 5 x y ≡ true) ↔ ((z : ℕ) × (axis t 1 z y ≡ true) × (axis t 11 x z ≡ true))
   unfolding axis
   descendant-axis s x y l = (down (seen (ltb 0 y)), up)
@@ -149,11 +150,12 @@ module _ (t : Tree) where
       up : (z : ℕ) × (axis t 1 z y ≡ true) × (axis t 11 x z ≡ true) → axis t 5 x y ≡ true
       up (z, a, b) = let u = child-axis z y .0 a in descendant-parent s x y (u .0) l ∙ rw (u .1) b
 
+  -- 11, descendant-or-self: x itself or a descendant
   pub descendant-or-self-axis : (x y : ℕ) → (axis t 11 x y ≡ true) ↔ ((x ≡ y) ⊎ (axis t 5 x y ≡ true))
   unfolding axis descendantOrSelf
   descendant-or-self-axis x y = or-says (self t x y) (descendant t x y) (eqb-says x y) Iff·rfl
 
-  -- every later node that is no descendant
+  -- 7, following: every later node that is no descendant
   pub following-axis : (x y : ℕ) → (axis t 7 x y ≡ true) ↔ ((x < y) × (axis t 5 x y ≡ false))
   unfolding axis following
   following-axis x y = and-says (ltb x y) (not (descendant t x y)) (ltb-says x y) (not-says (descendant t x y))

@@ -13,7 +13,7 @@ use Rattle.model.specs.Meaning.{pairs, holds}
 use Rattle.model.proofs.Booleans.{and-says, or-says, not-says, eqb-says}
 use Rattle.model.proofs.Exists.{any-iff, any-both}
 
-module _ (t : Tree) (g : ℕ → ℕ) (x y : ℕ) (p q : Path) (e f : NodeExpr) where
+module _ (t : Tree) (g : ℕ → ℕ) (x y : ℕ) where
   -- 0: y is on the axis from x and passes the test; 65535 is the star
   pub step-pair : (a name : ℕ) → (pairs t g (step a name) x y ≡ true) ↔ ((axis t a x y ≡ true) × ((name ≡ 65535) ⊎ (t .tag y ≡ name)))
   unfolding pairs steps passes
@@ -22,29 +22,29 @@ module _ (t : Tree) (g : ℕ → ℕ) (x y : ℕ) (p q : Path) (e f : NodeExpr) 
       (or-says (eqb name 65535) (eqb (t .tag y) name) (eqb-says name 65535) (eqb-says (t .tag y) name))
 
   -- 1: some z has (x, z) in the left and (z, y) in the right
-  pub compose-pair : (pairs t g (compose p q) x y ≡ true) ↔ ((z : ℕ) × (z < t .size) × (pairs t g p x z ≡ true) × (pairs t g q z y ≡ true))
+  pub compose-pair : (p q : Path) → (pairs t g (compose p q) x y ≡ true) ↔ ((z : ℕ) × (z < t .size) × (pairs t g p x z ≡ true) × (pairs t g q z y ≡ true))
   unfolding pairs
-  compose-pair = any-both (t .size) (λ z. pairs t g p x z) (λ z. pairs t g q z y)
+  compose-pair p q = any-both (t .size) (λ z. pairs t g p x z) (λ z. pairs t g q z y)
 
   -- 2: in the left or in the right
-  pub union-pair : (pairs t g (union p q) x y ≡ true) ↔ ((pairs t g p x y ≡ true) ⊎ (pairs t g q x y ≡ true))
+  pub union-pair : (p q : Path) → (pairs t g (union p q) x y ≡ true) ↔ ((pairs t g p x y ≡ true) ⊎ (pairs t g q x y ≡ true))
   unfolding pairs
-  union-pair = or-says (pairs t g p x y) (pairs t g q x y) Iff·rfl Iff·rfl
+  union-pair p q = or-says (pairs t g p x y) (pairs t g q x y) Iff·rfl Iff·rfl
 
   -- 3: in both
-  pub intersect-pair : (pairs t g (intersect p q) x y ≡ true) ↔ ((pairs t g p x y ≡ true) × (pairs t g q x y ≡ true))
+  pub intersect-pair : (p q : Path) → (pairs t g (intersect p q) x y ≡ true) ↔ ((pairs t g p x y ≡ true) × (pairs t g q x y ≡ true))
   unfolding pairs
-  intersect-pair = and-says (pairs t g p x y) (pairs t g q x y) Iff·rfl Iff·rfl
+  intersect-pair p q = and-says (pairs t g p x y) (pairs t g q x y) Iff·rfl Iff·rfl
 
   -- 4: in the left and not in the right
-  pub except-pair : (pairs t g (except p q) x y ≡ true) ↔ ((pairs t g p x y ≡ true) × (pairs t g q x y ≡ false))
+  pub except-pair : (p q : Path) → (pairs t g (except p q) x y ≡ true) ↔ ((pairs t g p x y ≡ true) × (pairs t g q x y ≡ false))
   unfolding pairs
-  except-pair = and-says (pairs t g p x y) (not (pairs t g q x y)) Iff·rfl (not-says (pairs t g q x y))
+  except-pair p q = and-says (pairs t g p x y) (not (pairs t g q x y)) Iff·rfl (not-says (pairs t g q x y))
 
   -- 5: in the path, and the node expression holds at y
-  pub filter-pair : (pairs t g (filter p e) x y ≡ true) ↔ ((pairs t g p x y ≡ true) × (holds t g e y ≡ true))
+  pub filter-pair : (p : Path) (e : NodeExpr) → (pairs t g (filter p e) x y ≡ true) ↔ ((pairs t g p x y ≡ true) × (holds t g e y ≡ true))
   unfolding pairs
-  filter-pair = and-says (pairs t g p x y) (holds t g e y) Iff·rfl Iff·rfl
+  filter-pair p e = and-says (pairs t g p x y) (holds t g e y) Iff·rfl Iff·rfl
 
   -- 6: y is the variable's node
   pub variable-pair : (k : ℕ) → (pairs t g (variable k) x y ≡ true) ↔ (y ≡ g k)
@@ -52,29 +52,29 @@ module _ (t : Tree) (g : ℕ → ℕ) (x y : ℕ) (p q : Path) (e f : NodeExpr) 
   variable-pair k = eqb-says y (g k)
 
   -- 7: (0, y) is in the path
-  pub root-pair : (pairs t g (fromRoot p) x y ≡ true) ↔ (pairs t g p 0 y ≡ true)
+  pub root-pair : (p : Path) → (pairs t g (fromRoot p) x y ≡ true) ↔ (pairs t g p 0 y ≡ true)
   unfolding pairs
-  root-pair = Iff·rfl
+  root-pair p = Iff·rfl
 
   -- 8: x has at least one y
-  pub exists-at : (holds t g (exists p) x ≡ true) ↔ ((z : ℕ) × (z < t .size) × (pairs t g p x z ≡ true))
+  pub exists-at : (p : Path) → (holds t g (exists p) x ≡ true) ↔ ((z : ℕ) × (z < t .size) × (pairs t g p x z ≡ true))
   unfolding pairs
-  exists-at = any-iff (t .size) (λ z. pairs t g p x z)
+  exists-at p = any-iff (t .size) (λ z. pairs t g p x z)
 
   -- 9: it does not hold
-  pub negate-at : (holds t g (negate e) x ≡ true) ↔ (holds t g e x ≡ false)
+  pub negate-at : (e : NodeExpr) → (holds t g (negate e) x ≡ true) ↔ (holds t g e x ≡ false)
   unfolding pairs
-  negate-at = not-says (holds t g e x)
+  negate-at e = not-says (holds t g e x)
 
   -- 10: both hold
-  pub both-at : (holds t g (both e f) x ≡ true) ↔ ((holds t g e x ≡ true) × (holds t g f x ≡ true))
+  pub both-at : (e f : NodeExpr) → (holds t g (both e f) x ≡ true) ↔ ((holds t g e x ≡ true) × (holds t g f x ≡ true))
   unfolding pairs
-  both-at = and-says (holds t g e x) (holds t g f x) Iff·rfl Iff·rfl
+  both-at e f = and-says (holds t g e x) (holds t g f x) Iff·rfl Iff·rfl
 
   -- 11: one of them holds
-  pub either-at : (holds t g (either e f) x ≡ true) ↔ ((holds t g e x ≡ true) ⊎ (holds t g f x ≡ true))
+  pub either-at : (e f : NodeExpr) → (holds t g (either e f) x ≡ true) ↔ ((holds t g e x ≡ true) ⊎ (holds t g f x ≡ true))
   unfolding pairs
-  either-at = or-says (holds t g e x) (holds t g f x) Iff·rfl Iff·rfl
+  either-at e f = or-says (holds t g e x) (holds t g f x) Iff·rfl Iff·rfl
 
   -- 12: x is the variable's node
   pub is-at : (k : ℕ) → (holds t g (is k) x ≡ true) ↔ (x ≡ g k)

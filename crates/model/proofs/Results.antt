@@ -114,13 +114,13 @@ module _ (t q : List ℕ) (columns : ℕ) (nodes from to : List ℕ) (ok : image
   backwards-byte x l = image-byte true x l
 
   module _ (back : Bool) where
-    -- each byte is 0 or 1
+    -- each byte of the result is 0 or 1
     pub image-either : (y : ℕ) → y < sizeOf t
         → (getD (imageBuffer t q columns nodes back from to) y 0 ≡ 0) ⊎ (getD (imageBuffer t q columns nodes back from to) y 0 ≡ 1)
     unfolding imageBytes
     image-either y l = byte-either (imageReply t q columns nodes from to) (sizeOf t) (image (sizeOf t) (related t q nodes (lastOf q) back) (memb from)) to ok y l
 
-    -- a set of zeros gives zeros
+    -- a set of zeros gives zeros, either way
     pub image-zeros : ((x : ℕ) → x < sizeOf t → getD from x 0 ≡ 0) → (y : ℕ) → y < sizeOf t → getD (imageBuffer t q columns nodes back from to) y 0 ≡ 0
     image-zeros none y l = go (image-either y l)
       where
@@ -128,7 +128,7 @@ module _ (t q : List ℕ) (columns : ℕ) (nodes from to : List ℕ) (ok : image
         go (_⊎_.inl e) = e
         go (_⊎_.inr e) = let (x, k, p, r) = image-byte back y l .0 e in let z : getD from x 0 ≡ 0 = none x k in absurd (omega arith)
 
-    -- the bytes from n on are as they were lent
+    -- the bytes from n on are as they were lent, and the buffer is as long as it was
     pub image-rest : (drop (sizeOf t) (imageBuffer t q columns nodes back from to) ≡ drop (sizeOf t) to) × (length (imageBuffer t q columns nodes back from to) ≡ length to)
     unfolding imageBytes setChecks roomChecks Passes
     image-rest =
@@ -155,7 +155,7 @@ module _ (t q : List ℕ) (columns : ℕ) (nodes table : List ℕ) (ok : pairsRe
   pairs-either i l =
       byte-either (pairsReply t q columns nodes table) (sizeOf t * sizeOf t) (cell (sizeOf t) (related t q nodes (lastOf q) false)) table ok i l
 
-  -- the bytes from n * n on are as they were lent
+  -- the bytes from n * n on are as they were lent, and the buffer is as long as it was
   pub pairs-rest : (drop (sizeOf t * sizeOf t) (pairsBuffer t q columns nodes table) ≡ drop (sizeOf t * sizeOf t) table)
       × (length (pairsBuffer t q columns nodes table) ≡ length table)
   unfolding pairsBytes pairsChecks tableChecks treeChecks queryChecks nodeChecks roomChecks numbered Passes
@@ -164,13 +164,15 @@ module _ (t q : List ℕ) (columns : ℕ) (nodes table : List ℕ) (ok : pairsRe
       rest-kept (pairsReply t q columns nodes table) (sizeOf t * sizeOf t) (cell (sizeOf t) (related t q nodes (lastOf q) false)) table ok
       (ltb-false (length table) (sizeOf t * sizeOf t) (w .0))
 
--- A refused call leaves what it was lent.
+-- Calls that are refused.
 
+-- a refused call of forwards or backwards leaves the buffer as it was lent
 pub image-refused : (t q : List ℕ) (columns : ℕ) (nodes : List ℕ) (back : Bool) (from to : List ℕ) → (imageReply t q columns nodes from to .number ≡ 0 → ⊥)
     → imageBuffer t q columns nodes back from to ≡ to
 image-refused t q columns nodes back from to z =
     sym (written-not (imageReply t q columns nodes from to) (imageReply t q columns nodes from to) (imageBytes t q nodes back from) to refl z)
 
+-- so does a refused call of pairs
 pub pairs-refused : (t q : List ℕ) (columns : ℕ) (nodes table : List ℕ) → (pairsReply t q columns nodes table .number ≡ 0 → ⊥)
     → pairsBuffer t q columns nodes table ≡ table
 pairs-refused t q columns nodes table z =
@@ -186,6 +188,7 @@ unpaged-of t q columns c buffer z = go (seen (eqb (verdict (pageChecks t q colum
     go (yes! e) = absurd (z (rw e refl))
     go (no! e) = rw e
 
+-- a refused page call counts no row, says that there is no more, and leaves the cursor and the buffer as they were lent
 pub page-refused : (t q : List ℕ) (columns : ℕ) (c : Cursor) (buffer : List ℕ) → (pageOutcome t q columns c buffer .number ≡ 0 → ⊥)
     → (pageOutcome t q columns c buffer .count ≡ 0)
     × (pageOutcome t q columns c buffer .more ≡ false)

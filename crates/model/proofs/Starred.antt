@@ -11,29 +11,7 @@ use Rattle.model.specs.Checks.{badParent, treeChecks, leftPath, leftExpr
 use Rattle.model.specs.Services.{pageOutcome}
 use Rattle.model.specs.Warehouse as w
 
--- what a line of the list needs, and what the lines behind it need
-infixr 4 _&_
-_&_ : {A B : Type 0} → A → B → A × B
-a & b = (a, b)
-
--- every starred line is correct
+-- every starred line is correct: its calls are accepted, and leave what the line tells
 pub starred-correct : w.AllCorrect w.starred
 unfolding w.AllCorrect w.Correct w.Reaches w.InTurn w.starred w.setOf w.among w.warehouse w.oneNode w.followingAny w.precedingAny w.rightAny w.parentAny w.childPallet w.selfAndRight w.belowChildren w.lastBay w.rootBays w.selfOrBay w.bayAndPallet w.pagesOfTwo pageOutcome written verdict imageChecks setChecks tableChecks pageChecks treeChecks queryChecks nodeChecks cursorChecks roomChecks badParent badEntry uses leftPath leftExpr rightPath rightExpr namesVariable lowest answers satisfied imageBytes related assigned parsedAt parsed grow parseOver parse pairs holds steps passes axis child right followingSibling descendant following preceding descendantOrSelf ancestorOrSelf climbs image upto memb tab any
-starred-correct =
-    (refl, refl)
-    & (refl, refl)
-    & (refl, refl)
-    & (refl, refl)
-    & (refl, refl)
-    & (refl, refl)
-    & (refl, refl)
-    & (refl, refl)
-    & (refl, refl)
-    & (refl, refl)
-    & (refl, refl)
-    & (refl, tt)
-    & (refl, tt)
-    & (refl, tt)
-    & (refl, (refl, (refl, tt)))
-    & (refl, tt)
-    & tt
+starred-correct = ((refl, refl), ((refl, refl), ((refl, refl), ((refl, refl), ((refl, refl), ((refl, refl), ((refl, refl), ((refl, refl), ((refl, refl), ((refl, refl), ((refl, refl), ((refl, tt), ((refl, tt), ((refl, tt), ((refl, (refl, (refl, tt))), ((refl, tt), tt))))))))))))))))
