@@ -6,7 +6,7 @@
 -- `drop k l` the rest; `getD l i d` is element i of l, or d past its end. `ltb x y`, `leb x y` and `eqb x y` are the tests x < y,
 -- x ≤ y and x = y; `&&`, `||` and `not` join tests; `cond b x y` is x if b, else y. `λ x. e` takes x to e. `record { a = x; .. }`
 -- makes a record, and `t .size` is a field of t. Where a type is a statement, `x ≡ y` says that the two are equal,
--- `(x : A) → P` that P holds for every x, and `P × Q` that both hold.
+-- `(x : A) → P` that P holds for every x, `(x : A) × P` that it holds for some x, and `P × Q` that both hold.
 use Prim.Native.Nat.{ℕ, zero, suc}
 use mathlib.Core.Bool.{Bool, true, false, not, _&&_, _||_}
 use mathlib.Core.List.{List, [], _∷_}
