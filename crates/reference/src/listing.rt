@@ -82,6 +82,41 @@ fn is_marked(marks: &table::Cells, row: usize) -> bool {
     table::byte_at(marks, row) == 1
 }
 
+// A node stands in place j of an answer.
+fn occurs(marks: &table::Cells, s: Space, j: usize, x: usize) -> bool {
+    let count = s.count;
+    let mut row = 0;
+    while row < count {
+        if is_marked(marks, row) & (node(s, row, j) == x) {
+            return true;
+        }
+        row += 1;
+    }
+    false
+}
+
+// How many nodes stand in place j of the answers.
+fn width(marks: &table::Cells, s: Space, j: usize) -> usize {
+    if s.columns <= j {
+        return 1;
+    }
+    let n = s.n;
+    let mut found = 0;
+    let mut x = 0;
+    while x < n {
+        let more = occurs(marks, s, j, x) as usize;
+        found = std::num::wrapping_add_usize(found, more);
+        x += 1;
+    }
+    found
+}
+
+// The answers, so many, are all rows over some set of nodes for each variable.
+pub fn is_product(marks: &table::Cells, s: Space, found: usize) -> bool {
+    let two = table::times(width(marks, s, 0), width(marks, s, 1));
+    found == table::times(two, width(marks, s, 2))
+}
+
 // Writes a row behind so many others.
 fn put_row(s: Space, row: usize, due: &mut table::Rows, behind: usize) {
     let columns = s.columns;
@@ -161,7 +196,7 @@ pub fn due_page(
 }
 
 // x where there is such a variable, else y.
-fn choose(there: bool, x: u16, y: u16) -> u16 {
+pub fn choose(there: bool, x: u16, y: u16) -> u16 {
     if there {
         return x;
     }
