@@ -27,19 +27,17 @@ pub const PAGES: usize = 31;
 
 pub const REFUSED: usize = 32;
 
-// How many lists of answers had gaps, no row, and every row; and how many of those with gaps were no product.
+// How many lists of answers had gaps, no row, and every row.
 pub const GAPS: usize = 33;
 
 pub const EMPTY: usize = 34;
 
 pub const FULL: usize = 35;
 
-pub const NO_PRODUCT: usize = 36;
-
 // The kinds and the axes in the queries of lists with gaps: bit k for number k.
-pub const KINDS: usize = 37;
+pub const KINDS: usize = 36;
 
-pub const AXES: usize = 38;
+pub const AXES: usize = 37;
 
 pub fn add(tally: &mut Tally, at: usize, more: u64) {
     if at < 40 {
@@ -225,7 +223,6 @@ pub fn show_all(tally: &Tally) {
     show_found(tally, PAGES, b"pages accepted: ");
     show_found(tally, REFUSED, b"pages refused between: ");
     show_found(tally, GAPS, b"lists with gaps: ");
-    show_found(tally, NO_PRODUCT, b"of them no product: ");
     show_found(tally, EMPTY, b"lists of no row: ");
     show_found(tally, FULL, b"lists of every row: ");
     io::write_all(1, b"in all: ");

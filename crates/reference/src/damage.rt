@@ -1,5 +1,5 @@
-// What is lent to a call that is refused: a tree, a query, a number of variables or a cursor with one fault, and the reply that
-// is due for it.
+// Faults in what a page is lent: another tree, another query, another number of variables, another cursor, or too little room;
+// each with the reply that is due.
 use super::evaluator;
 use super::listing;
 use super::random;
@@ -13,7 +13,7 @@ fn reply(number: usize, place: usize) -> model::Reply {
 }
 
 // A tree ends within a node, a node is its own parent, or its tag is reserved.
-pub fn damage_tree(seed: &mut u64, tree: &mut table::Table) -> model::Reply {
+fn in_tree(seed: &mut u64, tree: &mut table::Table) -> model::Reply {
     let x = random::below(seed, table::size(tree));
     let parent = std::num::wrapping_add_usize(x, x);
     let tag = std::num::wrapping_add_usize(parent, 1);
@@ -39,7 +39,7 @@ fn too_high(kind: usize) -> usize {
 }
 
 // A query ends within entry e, or a field of that entry is at fault.
-fn damage_entry(query: &mut table::Table, e: usize, fault: usize) -> model::Reply {
+fn in_entry(query: &mut table::Table, e: usize, fault: usize) -> model::Reply {
     let at = table::times(4, e);
     if fault == 0 {
         table::set_length(query, std::num::wrapping_add_usize(at, 3));
@@ -59,7 +59,7 @@ fn damage_entry(query: &mut table::Table, e: usize, fault: usize) -> model::Repl
 }
 
 // A query has one entry more: a step, so that the one before is never an operand; a path negated; or an expression.
-fn damage_end(query: &mut table::Table, last: usize, fault: usize) -> model::Reply {
+fn at_end(query: &mut table::Table, last: usize, fault: usize) -> model::Reply {
     let end = std::num::wrapping_add_usize(last, 1);
     if fault == 4 {
         random::append(query, random::entry(0, 0, 0, 65535));
@@ -74,20 +74,14 @@ fn damage_end(query: &mut table::Table, last: usize, fault: usize) -> model::Rep
 }
 
 // A query of fewer than 64 entries gets a fault of any number but 9.
-pub fn damage_query(seed: &mut u64, query: &mut table::Table) -> model::Reply {
+fn in_query(seed: &mut u64, query: &mut table::Table) -> model::Reply {
     let last = table::last(query);
     let e = random::between(seed, 0, last);
     let fault = random::below(seed, 7);
     if fault < 4 {
-        return damage_entry(query, e, fault);
+        return in_entry(query, e, fault);
     }
-    damage_end(query, last, fault)
-}
-
-// A number of variables that a query is refused with.
-pub struct Count {
-    pub columns: usize,
-    pub reply: model::Reply,
+    at_end(query, last, fault)
 }
 
 // The first entry that names a variable at or above a number; 64 if none does.
@@ -103,20 +97,38 @@ fn first_beyond(query: &[u16], columns: usize) -> usize {
     64
 }
 
-// Fewer variables than the query names, if there are such a number above 0; else none, or more than three.
-pub fn damage_count(seed: &mut u64, query: &table::Table, columns: usize) -> Count {
+// What a refused call is lent beside the tables, and the reply that is due.
+pub struct Fault {
+    pub columns: usize,
+    pub room: usize,
+    pub cursor: model::Cursor,
+    pub reply: model::Reply,
+}
+
+fn lent(columns: usize, room: usize, cursor: model::Cursor, reply: model::Reply) -> Fault {
+    Fault {
+        columns: columns,
+        room: room,
+        cursor: cursor,
+        reply: reply,
+    }
+}
+
+// Fewer variables than the query names, but not none; where that is no fault, none or more than three.
+fn in_count(
+    seed: &mut u64,
+    query: &table::Table,
+    columns: usize,
+    room: usize,
+    cursor: model::Cursor,
+) -> Fault {
     let fewer = random::below(seed, columns);
     let e = first_beyond(table::numbers(query), fewer);
     if (fewer == 0) | (e == 64) {
-        return Count {
-            columns: table::times(4, random::below(seed, 3)),
-            reply: reply(9, 0),
-        };
+        let many = table::times(4, random::below(seed, 3));
+        return lent(many, room, cursor, reply(9, 0));
     }
-    Count {
-        columns: fewer,
-        reply: reply(11, e),
-    }
+    lent(fewer, room, cursor, reply(11, e))
 }
 
 // A cursor that holds anything, begun as any byte but 0 says.
@@ -129,31 +141,65 @@ pub fn any_cursor(seed: &mut u64) -> model::Cursor {
     }
 }
 
-// The cursor at any row, answer or not, but with no node of n for variable k.
-pub fn damage_cursor(seed: &mut u64, s: listing::Space, k: usize) -> model::Cursor {
+// The cursor at any row, but with no node for one of the variables.
+fn in_cursor(seed: &mut u64, s: listing::Space, room: usize) -> Fault {
+    let k = random::below(seed, s.columns);
     let any = any_cursor(seed);
     let cursor = listing::cursor_at(s, any, random::below(seed, s.count));
     let none = table::narrow(random::between(seed, s.n, 65535));
-    model::Cursor {
+    let bad = model::Cursor {
         begun: any.begun,
         first: listing::choose(k == 0, none, cursor.first),
         second: listing::choose(k == 1, none, cursor.second),
         third: listing::choose(k == 2, none, cursor.third),
-    }
+    };
+    lent(s.columns, room, bad, reply(17, k))
 }
 
-// The cursor with anything in what a page does not read: all but the byte of a fresh one; of one that has begun which byte
-// says so, and the numbers beyond the variables.
-pub fn scrambled(seed: &mut u64, s: listing::Space, cursor: model::Cursor) -> model::Cursor {
-    let any = any_cursor(seed);
-    if cursor.begun == 0 {
-        return model::Cursor {
-            begun: 0,
-            first: any.first,
-            second: any.second,
-            third: any.third,
-        };
+// A fault in one of the tables.
+fn in_table(
+    seed: &mut u64,
+    tree: &mut table::Table,
+    query: &mut table::Table,
+    which: usize,
+) -> model::Reply {
+    if which == 0 {
+        return in_tree(seed, tree);
     }
+    in_query(seed, query)
+}
+
+// Puts any fault into what a page would be lent. But for the last the room is any, since an earlier fault is told first.
+pub fn put(
+    seed: &mut u64,
+    tree: &mut table::Table,
+    query: &mut table::Table,
+    s: listing::Space,
+    cursor: model::Cursor,
+) -> Fault {
+    let which = random::below(seed, 5);
+    let room = random::below(seed, table::times(3, s.columns));
+    if which < 2 {
+        return lent(s.columns, room, cursor, in_table(seed, tree, query, which));
+    }
+    if which == 2 {
+        return in_count(seed, query, s.columns, room, cursor);
+    }
+    if which == 3 {
+        return in_cursor(seed, s, room);
+    }
+    let little = random::below(seed, s.columns);
+    lent(s.columns, little, cursor, reply(20, 0))
+}
+
+// Every other time the cursor is changed where a page does not read it, if it has begun: which byte says so, and the numbers
+// beyond the variables.
+pub fn scrambled(seed: &mut u64, s: listing::Space, cursor: model::Cursor) -> model::Cursor {
+    let keeps = random::below(seed, 2) == 0;
+    if (cursor.begun == 0) | keeps {
+        return cursor;
+    }
+    let any = any_cursor(seed);
     model::Cursor {
         begun: any.begun,
         first: cursor.first,

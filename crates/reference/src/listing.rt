@@ -10,7 +10,7 @@ pub struct Space {
     pub count: usize,
 }
 
-pub fn rows_over(n: usize, columns: usize) -> Space {
+fn rows_over(n: usize, columns: usize) -> Space {
     let mut count = n;
     if 1 < columns {
         count = table::times(n, n);
@@ -58,63 +58,43 @@ fn is_answer(
     evaluator::has_pair(pairs, table::last(query), s.n)
 }
 
-// Marks the rows that are answers, and answers how many there are.
+// The answers of a query: the rows that they are among, and how many they are.
+pub struct Answers {
+    pub space: Space,
+    pub found: usize,
+}
+
+// There is an answer, and a row that is none.
+pub fn have_gaps(a: Answers) -> bool {
+    (0 < a.found) & (a.found < a.space.count)
+}
+
+// Marks the rows that are answers.
 pub fn list(
     pairs: &mut evaluator::Pairs,
     tree: &table::Table,
     query: &table::Table,
-    s: Space,
+    columns: usize,
     marks: &mut table::Cells,
-) -> usize {
+) -> Answers {
+    let s = rows_over(table::size(tree), columns);
+    let count = s.count;
     let mut found = 0;
     let mut row = 0;
-    let count = s.count;
     while row < count {
         let answer = is_answer(pairs, tree, query, s, row) as usize;
         table::put_byte(marks, row, answer);
         found = std::num::wrapping_add_usize(found, answer);
         row += 1;
     }
-    found
+    Answers {
+        space: s,
+        found: found,
+    }
 }
 
 fn is_marked(marks: &table::Cells, row: usize) -> bool {
     table::byte_at(marks, row) == 1
-}
-
-// A node stands in place j of an answer.
-fn occurs(marks: &table::Cells, s: Space, j: usize, x: usize) -> bool {
-    let count = s.count;
-    let mut row = 0;
-    while row < count {
-        if is_marked(marks, row) & (node(s, row, j) == x) {
-            return true;
-        }
-        row += 1;
-    }
-    false
-}
-
-// How many nodes stand in place j of the answers.
-fn width(marks: &table::Cells, s: Space, j: usize) -> usize {
-    if s.columns <= j {
-        return 1;
-    }
-    let n = s.n;
-    let mut found = 0;
-    let mut x = 0;
-    while x < n {
-        let more = occurs(marks, s, j, x) as usize;
-        found = std::num::wrapping_add_usize(found, more);
-        x += 1;
-    }
-    found
-}
-
-// The answers, so many, are all rows over some set of nodes for each variable.
-pub fn is_product(marks: &table::Cells, s: Space, found: usize) -> bool {
-    let two = table::times(width(marks, s, 0), width(marks, s, 1));
-    found == table::times(two, width(marks, s, 2))
 }
 
 // Writes a row behind so many others.

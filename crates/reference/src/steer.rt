@@ -67,17 +67,6 @@ fn steer(seed: &mut u64, query: &mut table::Table, columns: usize) {
     end_in_filters(seed, query, columns);
 }
 
-// The answers of a query: the rows that they are among, and how many they are.
-pub struct Answers {
-    pub space: listing::Space,
-    pub found: usize,
-}
-
-// There is an answer, and a row that is none.
-pub fn have_gaps(a: Answers) -> bool {
-    (0 < a.found) & (a.found < a.space.count)
-}
-
 fn make_once(
     seed: &mut u64,
     line: &line::Line,
@@ -85,15 +74,10 @@ fn make_once(
     query: &mut table::Table,
     pairs: &mut evaluator::Pairs,
     marks: &mut table::Cells,
-) -> Answers {
+) -> listing::Answers {
     let columns = random::make_both(seed, line, tree, query);
     steer(seed, query, columns);
-    let s = listing::rows_over(table::size(tree), columns);
-    let found = listing::list(pairs, tree, query, s, marks);
-    Answers {
-        space: s,
-        found: found,
-    }
+    listing::list(pairs, tree, query, columns, marks)
 }
 
 // Makes a tree and a query that a line asks for, and marks the answers; up to eight times, while they have no gaps.
@@ -104,11 +88,11 @@ pub fn make(
     query: &mut table::Table,
     pairs: &mut evaluator::Pairs,
     marks: &mut table::Cells,
-) -> Answers {
+) -> listing::Answers {
     let mut a = make_once(seed, line, tree, query, pairs, marks);
     let mut i: usize = 1;
     while i < 8 {
-        if have_gaps(a) {
+        if listing::have_gaps(a) {
             return a;
         }
         let next = make_once(seed, line, tree, query, pairs, marks);
@@ -132,19 +116,21 @@ fn meet_entries(tally: &mut tally::Tally, query: &[u16]) {
     }
 }
 
-// Counts a list by its sort.
-pub fn count(tally: &mut tally::Tally, query: &table::Table, marks: &table::Cells, a: Answers) {
+// Where a list is counted.
+fn sort(a: listing::Answers) -> usize {
     if a.found == 0 {
-        tally::add(tally, tally::EMPTY, 1);
-        return;
+        return tally::EMPTY;
     }
-    if !have_gaps(a) {
-        tally::add(tally, tally::FULL, 1);
-        return;
+    if a.found == a.space.count {
+        return tally::FULL;
     }
-    tally::add(tally, tally::GAPS, 1);
-    meet_entries(tally, table::numbers(query));
-    if !listing::is_product(marks, a.space, a.found) {
-        tally::add(tally, tally::NO_PRODUCT, 1);
+    tally::GAPS
+}
+
+// Counts a list by its sort.
+pub fn count(tally: &mut tally::Tally, query: &table::Table, a: listing::Answers) {
+    tally::add(tally, sort(a), 1);
+    if listing::have_gaps(a) {
+        meet_entries(tally, table::numbers(query));
     }
 }

@@ -1,5 +1,5 @@
-// The answers of random queries, page by page. The room changes from call to call, refused calls come between, and so do changes
-// to what a page does not look at: the byte of a cursor that has begun, and the numbers that it does not use.
+// The answers of random queries, page by page. The room changes from call to call, refused calls come between, and the cursor is
+// changed where a page does not read it.
 use super::pages;
 use harness::line;
 use harness::table;
@@ -17,130 +17,33 @@ struct Position {
     more: bool,
 }
 
-// Calls that are refused: they leave the cursor and the buffer as they were.
-
+// A call that is refused; it leaves the cursor and the buffer as they were.
 fn refuse(
     tally: &mut tally::Tally,
+    seed: &mut u64,
     tree: &table::Table,
     query: &table::Table,
-    columns: usize,
-    room: usize,
+    s: listing::Space,
     cursor: model::Cursor,
-    reply: model::Reply,
 ) {
     let due = [pages::PATTERN; 1024];
+    let mut other_tree = *tree;
+    let mut other_query = *query;
+    let f = damage::put(seed, &mut other_tree, &mut other_query, s, cursor);
+    let lent = f.cursor;
     let c = pages::Call {
-        columns: columns,
-        room: room,
-        number: model::wide(reply.number),
-        place: model::wide(reply.place),
+        columns: f.columns,
+        room: f.room,
+        number: model::wide(f.reply.number),
+        place: model::wide(f.reply.place),
         count: 0,
         more: false,
     };
     tally::add(tally, tally::REFUSED, 1);
-    pages::compare(tally, tree, query, c, cursor, &due, cursor);
+    pages::compare(tally, &other_tree, &other_query, c, lent, &due, lent);
 }
 
-// For another tree.
-fn refuse_tree(
-    tally: &mut tally::Tally,
-    seed: &mut u64,
-    tree: &table::Table,
-    query: &table::Table,
-    s: listing::Space,
-    room: usize,
-    cursor: model::Cursor,
-) {
-    let mut other = *tree;
-    let reply = damage::damage_tree(seed, &mut other);
-    refuse(tally, &other, query, s.columns, room, cursor, reply);
-}
-
-// For another query.
-fn refuse_query(
-    tally: &mut tally::Tally,
-    seed: &mut u64,
-    tree: &table::Table,
-    query: &table::Table,
-    s: listing::Space,
-    room: usize,
-    cursor: model::Cursor,
-) {
-    let mut other = *query;
-    let reply = damage::damage_query(seed, &mut other);
-    refuse(tally, tree, &other, s.columns, room, cursor, reply);
-}
-
-// For another number of variables.
-fn refuse_count(
-    tally: &mut tally::Tally,
-    seed: &mut u64,
-    tree: &table::Table,
-    query: &table::Table,
-    s: listing::Space,
-    room: usize,
-    cursor: model::Cursor,
-) {
-    let c = damage::damage_count(seed, query, s.columns);
-    refuse(tally, tree, query, c.columns, room, cursor, c.reply);
-}
-
-// For another cursor, which is at no row.
-fn refuse_cursor(
-    tally: &mut tally::Tally,
-    seed: &mut u64,
-    tree: &table::Table,
-    query: &table::Table,
-    s: listing::Space,
-    room: usize,
-) {
-    let k = random::below(seed, s.columns);
-    let other = damage::damage_cursor(seed, s, k);
-    let reply = model::Reply {
-        number: 17,
-        place: table::narrow(k),
-    };
-    refuse(tally, tree, query, s.columns, room, other, reply);
-}
-
-// For one of these faults, with any room; or for room that holds no row.
-fn refuse_any(
-    tally: &mut tally::Tally,
-    seed: &mut u64,
-    tree: &table::Table,
-    query: &table::Table,
-    s: listing::Space,
-    cursor: model::Cursor,
-) {
-    let fault = random::below(seed, 5);
-    let room = random::below(seed, table::times(3, s.columns));
-    if fault == 0 {
-        refuse_tree(tally, seed, tree, query, s, room, cursor);
-        return;
-    }
-    if fault == 1 {
-        refuse_query(tally, seed, tree, query, s, room, cursor);
-        return;
-    }
-    if fault == 2 {
-        refuse_count(tally, seed, tree, query, s, room, cursor);
-        return;
-    }
-    if fault == 3 {
-        refuse_cursor(tally, seed, tree, query, s, room);
-        return;
-    }
-    let little = random::below(seed, s.columns);
-    let reply = model::Reply {
-        number: 20,
-        place: 0,
-    };
-    refuse(tally, tree, query, s.columns, little, cursor, reply);
-}
-
-// Calls that are accepted.
-
-// One page with room for so many numbers.
+// One page, from a row on, with room for so many numbers.
 fn turn(
     tally: &mut tally::Tally,
     tree: &table::Table,
@@ -148,10 +51,11 @@ fn turn(
     marks: &table::Cells,
     s: listing::Space,
     room: usize,
-    at: Position,
+    cursor: model::Cursor,
+    start: usize,
 ) -> Position {
     let mut due = [pages::PATTERN; 1024];
-    let p = listing::due_page(marks, s, at.next, room, &mut due);
+    let p = listing::due_page(marks, s, start, room, &mut due);
     tally::add(tally, tally::PAGES, 1);
     tally::add(tally, tally::ROWS, p.count as u64);
     let c = pages::Call {
@@ -162,16 +66,16 @@ fn turn(
         count: p.count,
         more: p.more,
     };
-    let after = listing::moved(s, at.cursor, p);
-    let cursor = pages::compare(tally, tree, query, c, at.cursor, &due, after);
+    let after = listing::moved(s, cursor, p);
+    let moved = pages::compare(tally, tree, query, c, cursor, &due, after);
     Position {
-        cursor: cursor,
+        cursor: moved,
         next: p.next,
         more: p.more,
     }
 }
 
-// Room for one row, for two, for as many as told, or for any number up to that; and for a part of one more.
+// Room for one row, for two, for `most`, or for any number up to that; and for a part of one more.
 fn room_for(seed: &mut u64, s: listing::Space, most: usize) -> usize {
     let part = random::below(seed, s.columns);
     let form = random::below(seed, 4);
@@ -185,18 +89,6 @@ fn room_for(seed: &mut u64, s: listing::Space, most: usize) -> usize {
     std::num::wrapping_add_usize(table::times(rows, s.columns), part)
 }
 
-// Every other time the cursor is changed where a page does not read it.
-fn scrambled(seed: &mut u64, s: listing::Space, at: Position) -> Position {
-    if random::below(seed, 2) == 0 {
-        return at;
-    }
-    Position {
-        cursor: damage::scrambled(seed, s, at.cursor),
-        next: at.next,
-        more: at.more,
-    }
-}
-
 // Two calls that are refused, and a page.
 fn step(
     tally: &mut tally::Tally,
@@ -208,14 +100,14 @@ fn step(
     most: usize,
     at: Position,
 ) -> Position {
-    refuse_any(tally, seed, tree, query, s, at.cursor);
-    refuse_any(tally, seed, tree, query, s, at.cursor);
+    refuse(tally, seed, tree, query, s, at.cursor);
+    refuse(tally, seed, tree, query, s, at.cursor);
     let room = room_for(seed, s, most);
-    let from = scrambled(seed, s, at);
-    turn(tally, tree, query, marks, s, room, from)
+    let cursor = damage::scrambled(seed, s, at.cursor);
+    turn(tally, tree, query, marks, s, room, cursor, at.next)
 }
 
-// Pages to the end, with room for at most so many rows, and one after it.
+// Pages to the end, and one after it.
 fn page_through(
     tally: &mut tally::Tally,
     seed: &mut u64,
@@ -240,21 +132,22 @@ fn page_through(
     }
 }
 
-// Pages from the start, with room for at most 1 row to one more than there are answers.
+// Pages from the start, with room for up to 1 row, 2 rows, .. and one more than there are answers.
 fn page_through_from_start(
     tally: &mut tally::Tally,
     seed: &mut u64,
     tree: &table::Table,
     query: &table::Table,
     marks: &table::Cells,
-    a: steer::Answers,
+    a: listing::Answers,
 ) {
+    let any = damage::any_cursor(seed);
     let fresh = Position {
         cursor: model::Cursor {
             begun: 0,
-            first: 0,
-            second: 0,
-            third: 0,
+            first: any.first,
+            second: any.second,
+            third: any.third,
         },
         next: 0,
         more: true,
@@ -274,7 +167,7 @@ fn page_through_from_anywhere(
     tree: &table::Table,
     query: &table::Table,
     marks: &table::Cells,
-    a: steer::Answers,
+    a: listing::Answers,
 ) {
     let s = a.space;
     let row = random::below(seed, s.count);
@@ -298,7 +191,7 @@ pub fn run(
     let mut query = [0u16; 1025];
     let mut marks = [0u8; 66560];
     let a = steer::make(seed, line, &mut tree, &mut query, pairs, &mut marks);
-    steer::count(tally, &query, &marks, a);
+    steer::count(tally, &query, a);
     page_through_from_start(tally, seed, &tree, &query, &marks, a);
     page_through_from_anywhere(tally, seed, &tree, &query, &marks, a);
     page_through_from_anywhere(tally, seed, &tree, &query, &marks, a);

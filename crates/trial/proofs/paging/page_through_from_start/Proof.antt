@@ -10,6 +10,9 @@ Inv-loop tally₀ seed₀ tree query marks a fresh end most₀ tally seed most =
 abbrev μ-loop : tie.MeasureT-loop
 μ-loop tally₀ seed₀ tree query marks a fresh end most₀ tally seed most = end - most
 
+any-cursor-requires : tie.Need-any-cursor-requires Inv-loop μ-loop
+any-cursor-requires c κs = search needs
+
 wrapping-add-usize-requires : tie.Need-wrapping-add-usize-requires Inv-loop μ-loop
 wrapping-add-usize-requires c κs = search needs
 
@@ -37,6 +40,7 @@ page-through-from-start-spec =
     (tie.spec
     Inv-loop
     μ-loop
+    any-cursor-requires
     wrapping-add-usize-requires
     loop-holds
     page-through-requires
