@@ -142,12 +142,16 @@ TABLES = [
     ("a node expression for the query, last of two", TREE, STAR + [8, 0, 0, 0], 1, refused(15, 1)),
 ]
 
-# Answers of more than one page, and of whole pages: every row, or those whose last variable is the one node with the tag 9.
+# Answers of more than one page, and of whole pages: every row, those whose last variable is the one node with the tag 9, or
+# those of self::*[. is $0]/ancestor::*[. is $1].
 NINE = [65535, 9] + [n for k in range(31) for n in (0, 1)]
+ABOVE = [0, 0, 0, 65535, 12, 0, 0, 0, 5, 0, 1, 0, 0, 6, 0, 65535, 12, 1, 0, 0, 5, 3, 4, 0, 1, 2, 5, 0]
 LONG = [
     ("two variables, 256 nodes", CHAIN[:-2], STAR, 2, itertools.product(range(256), repeat=2)),
     ("three variables, 40 nodes", CHAIN[:80], STAR, 3, itertools.product(range(40), repeat=3)),
     ("three variables, one page of 1,024 rows", NINE, [0, 0, 0, 9, 12, 2, 0, 0, 5, 0, 1, 0], 3, itertools.product(range(32), range(32), [0])),
+    ("two variables, a node and one above it", CHAIN[:-2], ABOVE, 2, ((x, y) for x in range(256) for y in range(x))),
+    ("three variables, the third anywhere", CHAIN[:80], ABOVE, 3, ((x, y, z) for x in range(40) for y in range(x) for z in range(40))),
     ("one node", [65535, 1], STAR, 3, [(0, 0, 0)]),
     ("no row", TREE, [0, 0, 0, 9], 2, []),
 ]
@@ -163,17 +167,21 @@ def random_tree(source):
 
 
 def random_query(source, columns):
-    """A path of every kind, operands first, in the order that comes."""
+    """A path of every kind, operands first, in the order that comes. Of such paths most have no pair whatever the variables
+    are, or one for all that they can be; so three of four are filtered for each variable, as P[. is $1]/child::*[. is $0]."""
     table = []
 
     def add(*fields):
         table.extend(fields)
         return len(table) // 4 - 1
 
+    def step():
+        return add(0, source.randrange(13), 0, source.choice([0, 1, 2, 3, 65535, 65535]))
+
     def path(depth):
         kind = source.randrange(8) if depth else source.choice([0, 0, 0, 6])
         if kind == 0:
-            return add(0, source.randrange(13), 0, source.choice([0, 1, 2, 3, 65535, 65535]))
+            return step()
         if kind < 5:
             return add(kind, path(depth - 1), path(depth - 1), 0)
         if kind == 5:
@@ -188,7 +196,18 @@ def random_query(source, columns):
             return add(9, test(depth - 1), 0, 0)
         return add(kind, test(depth - 1), test(depth - 1), 0) if kind < 12 else add(12, source.randrange(columns), 0, 0)
 
-    path(4)
+    def about(k):
+        """`. is $k`; less often its negation, or that joined with another expression."""
+        own, form = add(12, k, 0, 0), source.randrange(6)
+        if form == 0:
+            return add(9, own, 0, 0)
+        return add(9 + form, own, test(1), 0) if form < 3 else own
+
+    whole = path(source.randrange(5))
+    if source.randrange(4):
+        for i, k in enumerate(source.sample(range(columns), columns)):
+            whole = add(1, whole, step(), 0) if i else whole
+            whole = add(5, whole, about(k), 0)
     return table
 
 
@@ -202,15 +221,33 @@ def random_file(source, tree, query, columns):
     return file(body, at[0], len(tree), at[1], len(query), columns)
 
 
-def random_jobs(count):
-    source = random.Random(2024)
-    while count:
+def random_list(source):
+    """A tree, a query, its number of variables and its answers; made anew, up to eleven times, while they have no gaps."""
+    for _ in range(12):
         tree, columns = random_tree(source), source.randint(1, 3)
         query = random_query(source, columns)
-        if len(query) <= 256:
-            count -= 1
-            wanted = listed(answers(tree, query, columns))
-            compare("random job %d" % count, printed(random_file(source, tree, query, columns)), wanted)
+        rows = answers(tree, query, columns)
+        if 0 < len(rows) < (len(tree) // 2) ** columns:
+            break
+    return tree, query, columns, rows
+
+
+def random_jobs(count):
+    """Random jobs. Of their lists at least three in four have gaps, neither no row nor every row, and the queries of these have
+    every kind and every axis."""
+    source, empty, full, kinds, axes = random.Random(2024), 0, 0, set(), set()
+    for job in range(count):
+        tree, query, columns, rows = random_list(source)
+        compare("random job %d" % job, printed(random_file(source, tree, query, columns)), listed(rows))
+        empty += not rows
+        full += len(rows) == (len(tree) // 2) ** columns
+        if 0 < len(rows) < (len(tree) // 2) ** columns:
+            kinds.update(query[0::4])
+            axes.update(axis for kind, axis in zip(query[0::4], query[1::4]) if kind == 0)
+    if 4 * (empty + full) > count:
+        problems.append("of %d random lists %d have no row and %d every row: too few have gaps" % (count, empty, full))
+    if len(kinds) < 13 or len(axes) < 13:
+        problems.append("the random lists with gaps have only the kinds %s and the axes %s" % (sorted(kinds), sorted(axes)))
 
 
 def examples():
@@ -259,5 +296,5 @@ for name, tree, query, columns, rows in LONG:
     compare(name, printed(make.job(tree, query, columns)), listed(rows))
 examples()
 inputs()
-random_jobs(60)
+random_jobs(200)
 end(problems)

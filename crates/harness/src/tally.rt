@@ -2,7 +2,7 @@
 use super::table;
 
 // The replies by their number (0 to 22), and the sums below.
-pub type Tally = [u64; 32];
+pub type Tally = [u64; 40];
 
 // The line of the input, and how many comparisons there were and failed, in all and in this part.
 const LINE: usize = 23;
@@ -22,21 +22,48 @@ pub const PAIRS: usize = 29;
 
 pub const ROWS: usize = 30;
 
+// How many pages were accepted and refused.
+pub const PAGES: usize = 31;
+
+pub const REFUSED: usize = 32;
+
+// How many lists of answers had gaps, no row, and every row.
+pub const GAPS: usize = 33;
+
+pub const EMPTY: usize = 34;
+
+pub const FULL: usize = 35;
+
+// The kinds and the axes in the queries of lists with gaps: bit k for number k.
+pub const KINDS: usize = 36;
+
+pub const AXES: usize = 37;
+
 pub fn add(tally: &mut Tally, at: usize, more: u64) {
-    if at < 32 {
+    if at < 40 {
         let sum = std::num::wrapping_add_u64(tally[at], more);
         tally[at] = sum;
     }
 }
 
+// Number k, below 13, was met.
+pub fn meet(tally: &mut Tally, at: usize, k: usize) {
+    if at < 40 {
+        if k < 13 {
+            let bits = tally[at] | (1 << k);
+            tally[at] = bits;
+        }
+    }
+}
+
 fn clear(tally: &mut Tally, at: usize) {
-    if at < 32 {
+    if at < 40 {
         tally[at] = 0;
     }
 }
 
 fn sum_at(tally: &Tally, at: usize) -> u64 {
-    if at < 32 {
+    if at < 40 {
         return tally[at];
     }
     0
@@ -122,6 +149,21 @@ pub fn expect_cursor(tally: &mut Tally, got: model::Cursor, due: model::Cursor) 
     expect(tally, same_cursor(got, due));
 }
 
+// How many lists were counted at one of these places.
+fn lists(tally: &Tally) -> usize {
+    let some = std::num::wrapping_add_u64(sum_at(tally, EMPTY), sum_at(tally, FULL));
+    std::num::wrapping_add_u64(sum_at(tally, GAPS), some) as usize
+}
+
+// Of the lists of answers no fewer than some of so many had gaps, and their queries had every kind and every axis.
+pub fn expect_gaps(tally: &mut Tally, some: usize, of: usize) {
+    let with = sum_at(tally, GAPS) as usize;
+    let least = table::times(some, lists(tally));
+    expect(tally, least <= table::times(of, with));
+    expect(tally, sum_at(tally, KINDS) == 8191);
+    expect(tally, sum_at(tally, AXES) == 8191);
+}
+
 // The line for the part that ends here.
 fn show_part(tally: &mut Tally) {
     show_number(sum_at(tally, COMPARED_HERE), b" compared, ");
@@ -178,6 +220,11 @@ pub fn show_all(tally: &Tally) {
     show_found(tally, NODES, b"nodes in results: ");
     show_found(tally, PAIRS, b"pairs in tables: ");
     show_found(tally, ROWS, b"rows in pages: ");
+    show_found(tally, PAGES, b"pages accepted: ");
+    show_found(tally, REFUSED, b"pages refused between: ");
+    show_found(tally, GAPS, b"lists with gaps: ");
+    show_found(tally, EMPTY, b"lists of no row: ");
+    show_found(tally, FULL, b"lists of every row: ");
     io::write_all(1, b"in all: ");
     show_number(sum_at(tally, COMPARED), b" compared, ");
     show_number(sum_at(tally, FAILED), b" failed\n");

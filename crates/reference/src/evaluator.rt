@@ -225,7 +225,7 @@ fn in_expr(pairs: &Pairs, n: usize, kind: usize, l: usize, r: usize, x: usize) -
 }
 
 // The numbers of an entry.
-fn entry_of(query: &[u16], e: usize) -> model::Entry {
+pub fn entry_of(query: &[u16], e: usize) -> model::Entry {
     if 64 <= e {
         return model::Entry {
             kind: 0,

@@ -1,5 +1,7 @@
 // The test program's own evaluator, written separately from the engine, straight from document 01: pairs, images, answers, and
-// the pages that are due; and the random trees, queries and sets that the engine is tried on.
+// the pages that are due; the random trees, queries and sets that the engine is tried on; and what is refused instead of them.
+pub mod damage;
 pub mod evaluator;
 pub mod listing;
 pub mod random;
+pub mod steer;

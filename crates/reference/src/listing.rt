@@ -10,7 +10,7 @@ pub struct Space {
     pub count: usize,
 }
 
-pub fn rows_over(n: usize, columns: usize) -> Space {
+fn rows_over(n: usize, columns: usize) -> Space {
     let mut count = n;
     if 1 < columns {
         count = table::times(n, n);
@@ -58,24 +58,39 @@ fn is_answer(
     evaluator::has_pair(pairs, table::last(query), s.n)
 }
 
-// Marks the rows that are answers, and answers how many there are.
+// The answers of a query: the rows that they are among, and how many they are.
+pub struct Answers {
+    pub space: Space,
+    pub found: usize,
+}
+
+// There is an answer, and a row that is none.
+pub fn have_gaps(a: Answers) -> bool {
+    (0 < a.found) & (a.found < a.space.count)
+}
+
+// Marks the rows that are answers.
 pub fn list(
     pairs: &mut evaluator::Pairs,
     tree: &table::Table,
     query: &table::Table,
-    s: Space,
+    columns: usize,
     marks: &mut table::Cells,
-) -> usize {
+) -> Answers {
+    let s = rows_over(table::size(tree), columns);
+    let count = s.count;
     let mut found = 0;
     let mut row = 0;
-    let count = s.count;
     while row < count {
         let answer = is_answer(pairs, tree, query, s, row) as usize;
         table::put_byte(marks, row, answer);
         found = std::num::wrapping_add_usize(found, answer);
         row += 1;
     }
-    found
+    Answers {
+        space: s,
+        found: found,
+    }
 }
 
 fn is_marked(marks: &table::Cells, row: usize) -> bool {
@@ -161,7 +176,7 @@ pub fn due_page(
 }
 
 // x where there is such a variable, else y.
-fn choose(there: bool, x: u16, y: u16) -> u16 {
+pub fn choose(there: bool, x: u16, y: u16) -> u16 {
     if there {
         return x;
     }

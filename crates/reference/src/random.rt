@@ -100,6 +100,28 @@ pub fn make_set(seed: &mut u64, set: &mut table::Set, n: usize) {
     }
 }
 
+// The four numbers of an entry.
+pub fn entry(kind: usize, left: usize, right: usize, tag: usize) -> model::Entry {
+    model::Entry {
+        kind: kind,
+        left: left,
+        right: right,
+        tag: tag,
+    }
+}
+
+// Writes an entry behind the others of a query, of which there are at most 64.
+pub fn append(query: &mut table::Table, f: model::Entry) {
+    let at = table::length(query);
+    if at < 256 {
+        table::put(query, at, f.kind);
+        table::put(query, at + 1, f.left);
+        table::put(query, at + 2, f.right);
+        table::put(query, at + 3, f.tag);
+        table::set_length(query, at + 4);
+    }
+}
+
 // What an entry can be as an operand: nothing, since it is one already; a path; a node expression.
 const TAKEN: u8 = 0;
 
@@ -121,7 +143,7 @@ fn result(kind: usize) -> u8 {
     0
 }
 
-fn left(kind: usize) -> u8 {
+pub fn left(kind: usize) -> u8 {
     if kind < 13 {
         return LEFT[kind];
     }
@@ -180,34 +202,13 @@ fn take(seed: &mut u64, free: &mut [u8; 64], sort: u8) -> usize {
     e
 }
 
-fn put_entry(query: &mut table::Table, free: &mut [u8; 64], e: usize, f: model::Entry) {
-    if e < 64 {
-        table::put(query, 4 * e, f.kind);
-        table::put(query, 4 * e + 1, f.left);
-        table::put(query, 4 * e + 2, f.right);
-        table::put(query, 4 * e + 3, f.tag);
-        table::set_length(query, 4 * e + 4);
-        mark(free, e, result(f.kind));
-    }
-}
-
 // A step along any axis, more often with the star than with a tag.
-fn step(seed: &mut u64) -> model::Entry {
+pub fn step(seed: &mut u64) -> model::Entry {
     let axis = below(seed, 13);
     if 0 < below(seed, 4) {
-        return model::Entry {
-            kind: 0,
-            left: axis,
-            right: 0,
-            tag: 65535,
-        };
+        return entry(0, axis, 0, 65535);
     }
-    model::Entry {
-        kind: 0,
-        left: axis,
-        right: 0,
-        tag: tag(seed),
-    }
+    entry(0, axis, 0, tag(seed))
 }
 
 // An entry with no operands: of kind 6 or 12, if asked for and there is a variable, else a step.
@@ -218,12 +219,7 @@ fn leaf(seed: &mut u64, kind: usize, columns: usize) -> model::Entry {
     if columns == 0 {
         return step(seed);
     }
-    model::Entry {
-        kind: kind,
-        left: below(seed, columns),
-        right: 0,
-        tag: 0,
-    }
+    entry(kind, below(seed, columns), 0, 0)
 }
 
 // An entry of this kind over any free operands; a step where there are not enough.
@@ -236,24 +232,14 @@ fn make_entry(seed: &mut u64, free: &mut [u8; 64], kind: usize, columns: usize) 
         return step(seed);
     }
     if right(kind) == 0 {
-        return model::Entry {
-            kind: kind,
-            left: l,
-            right: 0,
-            tag: 0,
-        };
+        return entry(kind, l, 0, 0);
     }
     let r = take(seed, free, right(kind));
     if r == 64 {
         mark(free, l, left(kind));
         return step(seed);
     }
-    model::Entry {
-        kind: kind,
-        left: l,
-        right: r,
-        tag: 0,
-    }
+    entry(kind, l, r, 0)
 }
 
 // A kind that joins two paths: more often compose or union than intersect or except, which leave less.
@@ -301,13 +287,15 @@ fn grow(
         return false;
     }
     let f = make_entry(seed, free, kind, columns);
-    put_entry(query, free, e, f);
+    append(query, f);
+    mark(free, e, result(f.kind));
     true
 }
 
 // A query of at most one entry more than twice as many as are grown. Operands are taken from anywhere, so that the
 // entries come in any order that the rules admit.
 fn make_query(seed: &mut u64, query: &mut table::Table, grown: usize, columns: usize) {
+    table::set_length(query, 0);
     let mut free = [TAKEN; 64];
     let mut e = 0;
     while e < 64 {

@@ -1,5 +1,6 @@
 // Random trees, queries and sets: the services compared with the reference evaluator.
 use super::call;
+use harness::line;
 use harness::table;
 use harness::tally;
 use reference::evaluator;
@@ -76,18 +77,19 @@ fn compare_images(
     compare_image(tally, seed, call::BACKWARDS, tree, query, nodes, pairs);
 }
 
-// All results of a tree and a query, under a random assignment.
+// All results of a tree and a query that a line asks for, under a random assignment.
 pub fn run(
     tally: &mut tally::Tally,
     seed: &mut u64,
-    tree: &table::Table,
-    query: &table::Table,
-    columns: usize,
+    line: &line::Line,
     pairs: &mut evaluator::Pairs,
 ) {
+    let mut tree = [0u16; 1025];
+    let mut query = [0u16; 1025];
     let mut nodes = [0u16; 1025];
-    random::make_nodes(seed, &mut nodes, columns, table::size(tree));
-    evaluator::fill(pairs, tree, query, &nodes);
-    compare_images(tally, seed, tree, query, &nodes, pairs);
-    compare_pairs(tally, seed, tree, query, &nodes, pairs);
+    let columns = random::make_both(seed, line, &mut tree, &mut query);
+    random::make_nodes(seed, &mut nodes, columns, table::size(&tree));
+    evaluator::fill(pairs, &tree, &query, &nodes);
+    compare_images(tally, seed, &tree, &query, &nodes, pairs);
+    compare_pairs(tally, seed, &tree, &query, &nodes, pairs);
 }

@@ -1,10 +1,14 @@
-// The answers of random queries: pages of every size over them, with calls that are refused between.
+// The answers of random queries, page by page. The room changes from call to call, refused calls come between, and the cursor is
+// changed where a page does not read it.
 use super::pages;
+use harness::line;
 use harness::table;
 use harness::tally;
+use reference::damage;
 use reference::evaluator;
 use reference::listing;
 use reference::random;
+use reference::steer;
 
 // Where paging stands: the cursor, the row from which it goes on, and whether there is more.
 struct Position {
@@ -13,7 +17,33 @@ struct Position {
     more: bool,
 }
 
-// One page with room for so many numbers.
+// A call that is refused; it leaves the cursor and the buffer as they were.
+fn refuse(
+    tally: &mut tally::Tally,
+    seed: &mut u64,
+    tree: &table::Table,
+    query: &table::Table,
+    s: listing::Space,
+    cursor: model::Cursor,
+) {
+    let due = [pages::PATTERN; 1024];
+    let mut other_tree = *tree;
+    let mut other_query = *query;
+    let f = damage::put(seed, &mut other_tree, &mut other_query, s, cursor);
+    let lent = f.cursor;
+    let c = pages::Call {
+        columns: f.columns,
+        room: f.room,
+        number: model::wide(f.reply.number),
+        place: model::wide(f.reply.place),
+        count: 0,
+        more: false,
+    };
+    tally::add(tally, tally::REFUSED, 1);
+    pages::compare(tally, &other_tree, &other_query, c, lent, &due, lent);
+}
+
+// One page, from a row on, with room for so many numbers.
 fn turn(
     tally: &mut tally::Tally,
     tree: &table::Table,
@@ -21,10 +51,12 @@ fn turn(
     marks: &table::Cells,
     s: listing::Space,
     room: usize,
-    at: Position,
+    cursor: model::Cursor,
+    start: usize,
 ) -> Position {
     let mut due = [pages::PATTERN; 1024];
-    let p = listing::due_page(marks, s, at.next, room, &mut due);
+    let p = listing::due_page(marks, s, start, room, &mut due);
+    tally::add(tally, tally::PAGES, 1);
     tally::add(tally, tally::ROWS, p.count as u64);
     let c = pages::Call {
         columns: s.columns,
@@ -34,116 +66,97 @@ fn turn(
         count: p.count,
         more: p.more,
     };
-    let after = listing::moved(s, at.cursor, p);
-    let cursor = pages::compare(tally, tree, query, c, at.cursor, &due, after);
+    let after = listing::moved(s, cursor, p);
+    let moved = pages::compare(tally, tree, query, c, cursor, &due, after);
     Position {
-        cursor: cursor,
+        cursor: moved,
         next: p.next,
         more: p.more,
     }
 }
 
-// A call that is refused, between those that are not.
-fn refused(
-    tally: &mut tally::Tally,
-    tree: &table::Table,
-    query: &table::Table,
-    columns: usize,
-    room: usize,
-    number: usize,
-    cursor: model::Cursor,
-) -> model::Cursor {
-    let due = [pages::PATTERN; 1024];
-    let c = pages::Call {
-        columns: columns,
-        room: room,
-        number: number,
-        place: 0,
-        count: 0,
-        more: false,
-    };
-    pages::compare(tally, tree, query, c, cursor, &due, cursor)
-}
-
-// One page, and calls that are refused after it: for too little room, for no variables and for no tree.
-fn step(
-    tally: &mut tally::Tally,
-    tree: &table::Table,
-    query: &table::Table,
-    marks: &table::Cells,
-    s: listing::Space,
-    room: usize,
-    at: Position,
-) -> Position {
-    let t = turn(tally, tree, query, marks, s, room, at);
-    let none = [0u16; 1025];
-    let little = std::num::wrapping_sub_usize(s.columns, 1);
-    let a = refused(tally, tree, query, s.columns, little, 20, t.cursor);
-    let b = refused(tally, tree, query, 0, room, 9, a);
-    let c = refused(tally, &none, query, s.columns, room, 5, b);
-    Position {
-        cursor: c,
-        next: t.next,
-        more: t.more,
-    }
-}
-
-// Pages to the end, and one after it.
-fn page_through(
-    tally: &mut tally::Tally,
-    tree: &table::Table,
-    query: &table::Table,
-    marks: &table::Cells,
-    s: listing::Space,
-    room: usize,
-    start: Position,
-) {
-    let most = s.count;
-    let mut at = start;
-    let mut i = 0;
-    while i < most {
-        let next = step(tally, tree, query, marks, s, room, at);
-        at = next;
-        if !at.more {
-            turn(tally, tree, query, marks, s, room, at);
-            return;
-        }
-        i += 1;
-    }
-}
-
-// Room for so many rows, and for a part of one more.
-fn room_for(seed: &mut u64, s: listing::Space, rows: usize) -> usize {
+// Room for one row, for two, for `most`, or for any number up to that; and for a part of one more.
+fn room_for(seed: &mut u64, s: listing::Space, most: usize) -> usize {
     let part = random::below(seed, s.columns);
+    let form = random::below(seed, 4);
+    let mut rows = std::num::wrapping_add_usize(form, 1);
+    if form == 2 {
+        rows = most;
+    }
+    if form == 3 {
+        rows = random::between(seed, 1, most);
+    }
     std::num::wrapping_add_usize(table::times(rows, s.columns), part)
 }
 
-// Pages from the start, with room for 1 row to one more than there are answers.
-fn page_through_from_start(
+// Two calls that are refused, and a page.
+fn step(
     tally: &mut tally::Tally,
     seed: &mut u64,
     tree: &table::Table,
     query: &table::Table,
     marks: &table::Cells,
     s: listing::Space,
-    answers: usize,
+    most: usize,
+    at: Position,
+) -> Position {
+    refuse(tally, seed, tree, query, s, at.cursor);
+    refuse(tally, seed, tree, query, s, at.cursor);
+    let room = room_for(seed, s, most);
+    let cursor = damage::scrambled(seed, s, at.cursor);
+    turn(tally, tree, query, marks, s, room, cursor, at.next)
+}
+
+// Pages to the end, and one after it.
+fn page_through(
+    tally: &mut tally::Tally,
+    seed: &mut u64,
+    tree: &table::Table,
+    query: &table::Table,
+    marks: &table::Cells,
+    s: listing::Space,
+    most: usize,
+    start: Position,
 ) {
+    let count = s.count;
+    let mut at = start;
+    let mut i = 0;
+    while i < count {
+        let next = step(tally, seed, tree, query, marks, s, most, at);
+        at = next;
+        if !at.more {
+            step(tally, seed, tree, query, marks, s, most, at);
+            return;
+        }
+        i += 1;
+    }
+}
+
+// Pages from the start, with room for up to 1 row, 2 rows, .. and one more than there are answers.
+fn page_through_from_start(
+    tally: &mut tally::Tally,
+    seed: &mut u64,
+    tree: &table::Table,
+    query: &table::Table,
+    marks: &table::Cells,
+    a: listing::Answers,
+) {
+    let any = damage::any_cursor(seed);
     let fresh = Position {
         cursor: model::Cursor {
             begun: 0,
-            first: 65535,
-            second: 1,
-            third: 60000,
+            first: any.first,
+            second: any.second,
+            third: any.third,
         },
         next: 0,
         more: true,
     };
-    let most = std::num::wrapping_add_usize(answers, 2);
-    let mut rows = 1;
-    while rows < most {
-        let room = room_for(seed, s, rows);
-        page_through(tally, tree, query, marks, s, room, fresh);
-        rows += 1;
+    let end = std::num::wrapping_add_usize(a.found, 2);
+    let mut most = 1;
+    while most < end {
+        page_through(tally, seed, tree, query, marks, a.space, most, fresh);
+        most += 1;
     }
 }
 
@@ -154,40 +167,33 @@ fn page_through_from_anywhere(
     tree: &table::Table,
     query: &table::Table,
     marks: &table::Cells,
-    s: listing::Space,
-    answers: usize,
+    a: listing::Answers,
 ) {
+    let s = a.space;
     let row = random::below(seed, s.count);
-    let any = model::Cursor {
-        begun: 1,
-        first: 0,
-        second: 60000,
-        third: 65535,
-    };
     let start = Position {
-        cursor: listing::cursor_at(s, any, row),
+        cursor: listing::cursor_at(s, damage::any_cursor(seed), row),
         next: std::num::wrapping_add_usize(row, 1),
         more: true,
     };
-    let rows = random::between(seed, 1, answers);
-    let room = room_for(seed, s, rows);
-    page_through(tally, tree, query, marks, s, room, start);
+    let most = random::between(seed, 1, std::num::wrapping_add_usize(a.found, 1));
+    page_through(tally, seed, tree, query, marks, s, most, start);
 }
 
 // All pages over the answers of a query.
 pub fn run(
     tally: &mut tally::Tally,
     seed: &mut u64,
-    tree: &table::Table,
-    query: &table::Table,
-    columns: usize,
+    line: &line::Line,
     pairs: &mut evaluator::Pairs,
 ) {
-    let s = listing::rows_over(table::size(tree), columns);
+    let mut tree = [0u16; 1025];
+    let mut query = [0u16; 1025];
     let mut marks = [0u8; 66560];
-    let answers = listing::list(pairs, tree, query, s, &mut marks);
-    page_through_from_start(tally, seed, tree, query, &marks, s, answers);
-    page_through_from_anywhere(tally, seed, tree, query, &marks, s, answers);
-    page_through_from_anywhere(tally, seed, tree, query, &marks, s, answers);
-    page_through_from_anywhere(tally, seed, tree, query, &marks, s, answers);
+    let a = steer::make(seed, line, &mut tree, &mut query, pairs, &mut marks);
+    steer::count(tally, &query, a);
+    page_through_from_start(tally, seed, &tree, &query, &marks, a);
+    page_through_from_anywhere(tally, seed, &tree, &query, &marks, a);
+    page_through_from_anywhere(tally, seed, &tree, &query, &marks, a);
+    page_through_from_anywhere(tally, seed, &tree, &query, &marks, a);
 }

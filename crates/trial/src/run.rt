@@ -8,7 +8,6 @@ use harness::line;
 use harness::table;
 use harness::tally;
 use reference::evaluator;
-use reference::random;
 
 // The first part of a line says which number and place are due.
 fn expect(tally: &mut tally::Tally, line: &line::Line, got: model::Reply) {
@@ -92,14 +91,11 @@ fn run_one(
     letter: u8,
     pairs: &mut evaluator::Pairs,
 ) {
-    let mut tree = [0u16; 1025];
-    let mut query = [0u16; 1025];
-    let columns = random::make_both(seed, line, &mut tree, &mut query);
     if letter == b'r' {
-        compare::run(tally, seed, &tree, &query, columns, pairs);
+        compare::run(tally, seed, line, pairs);
         return;
     }
-    paging::run(tally, seed, &tree, &query, columns, pairs);
+    paging::run(tally, seed, line, pairs);
 }
 
 // random SEED COUNT | LEAST MOST ENTRIES: so many trees, of LEAST to MOST nodes, and queries from a seed
@@ -129,6 +125,10 @@ fn run_call(
     }
     if letter == b'a' {
         pages::run(tally, tree, query, line);
+        return;
+    }
+    if letter == b'g' {
+        tally::expect_gaps(tally, line::number(line, 0, 0), line::number(line, 0, 1));
         return;
     }
     if (letter == b'r') | (letter == b'w') {
@@ -161,7 +161,7 @@ fn run_line(
 }
 
 pub fn run_all(text: &[u8]) {
-    let mut tally = [0u64; 32];
+    let mut tally = [0u64; 40];
     let mut tree = [0u16; 1025];
     let mut query = [0u16; 1025];
     let mut at = 0;

@@ -5,10 +5,16 @@ use Rattle.reference.proofs.listing.list.Statement.{statement}
 use Rattle.reference.proofs.listing.list.Tie as tie
 
 abbrev Inv-loop : tie.InvT-loop
-Inv-loop pairs₀ tree query s marks₀ found₀ row₀ count pairs marks found row = Unit {0}
+Inv-loop pairs₀ tree query columns marks₀ s count found₀ row₀ pairs marks found row = Unit {0}
 
 abbrev μ-loop : tie.MeasureT-loop
-μ-loop pairs₀ tree query s marks₀ found₀ row₀ count pairs marks found row = count - row
+μ-loop pairs₀ tree query columns marks₀ s count found₀ row₀ pairs marks found row = count - row
+
+size-requires : tie.Need-size-requires Inv-loop μ-loop
+size-requires c κs = search needs
+
+rows-over-requires : tie.Need-rows-over-requires Inv-loop μ-loop
+rows-over-requires c κs = search needs
 
 loop-holds : tie.Need-loop-holds Inv-loop μ-loop
 loop-holds c = search needs
@@ -43,6 +49,8 @@ list-spec =
     (tie.spec
     Inv-loop
     μ-loop
+    size-requires
+    rows-over-requires
     loop-holds
     is-answer-requires
     cast-answer

@@ -10,6 +10,9 @@ Inv-loop seed₀ query₀ grown columns free₀ e₀ seed query free e = Unit {0
 abbrev μ-loop : tie.MeasureT-loop
 μ-loop seed₀ query₀ grown columns free₀ e₀ seed query free e = 64 - e
 
+set-length-requires : tie.Need-set-length-requires Inv-loop μ-loop
+set-length-requires c κs = search needs
+
 loop-holds : tie.Need-loop-holds Inv-loop μ-loop
 loop-holds c = search needs
 
@@ -37,6 +40,7 @@ make-query-spec =
     (tie.spec
     Inv-loop
     μ-loop
+    set-length-requires
     loop-holds
     grow-requires
     returns

@@ -5,10 +5,10 @@ use Rattle.trial.proofs.paging.page_through.Statement.{statement}
 use Rattle.trial.proofs.paging.page_through.Tie as tie
 
 abbrev Inv-loop : tie.InvT-loop
-Inv-loop tally₀ tree query marks s room most at₀ i₀ tally at i = Unit {0}
+Inv-loop tally₀ seed₀ tree query marks s most count at₀ i₀ tally seed at i = Unit {0}
 
 abbrev μ-loop : tie.MeasureT-loop
-μ-loop tally₀ tree query marks s room most at₀ i₀ tally at i = most - i
+μ-loop tally₀ seed₀ tree query marks s most count at₀ i₀ tally seed at i = count - i
 
 loop-holds : tie.Need-loop-holds Inv-loop μ-loop
 loop-holds c = search needs
@@ -16,8 +16,8 @@ loop-holds c = search needs
 step-requires : tie.Need-step-requires Inv-loop μ-loop
 step-requires c κs = search needs
 
-turn-requires : tie.Need-turn-requires Inv-loop μ-loop
-turn-requires c κs = search needs
+step-requires-2 : tie.Need-step-requires-2 Inv-loop μ-loop
+step-requires-2 c κs = search needs
 
 returns : tie.Need-returns Inv-loop μ-loop
 returns c = search needs
@@ -42,7 +42,7 @@ page-through-spec =
     μ-loop
     loop-holds
     step-requires
-    turn-requires
+    step-requires-2
     returns
     add-i
     loop-less

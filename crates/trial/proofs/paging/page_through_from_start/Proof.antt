@@ -5,10 +5,13 @@ use Rattle.trial.proofs.paging.page_through_from_start.Statement.{state
 use Rattle.trial.proofs.paging.page_through_from_start.Tie as tie
 
 abbrev Inv-loop : tie.InvT-loop
-Inv-loop tally₀ seed₀ tree query marks s answers fresh most rows₀ tally seed rows = Unit {0}
+Inv-loop tally₀ seed₀ tree query marks a fresh end most₀ tally seed most = Unit {0}
 
 abbrev μ-loop : tie.MeasureT-loop
-μ-loop tally₀ seed₀ tree query marks s answers fresh most rows₀ tally seed rows = most - rows
+μ-loop tally₀ seed₀ tree query marks a fresh end most₀ tally seed most = end - most
+
+any-cursor-requires : tie.Need-any-cursor-requires Inv-loop μ-loop
+any-cursor-requires c κs = search needs
 
 wrapping-add-usize-requires : tie.Need-wrapping-add-usize-requires Inv-loop μ-loop
 wrapping-add-usize-requires c κs = search needs
@@ -16,14 +19,11 @@ wrapping-add-usize-requires c κs = search needs
 loop-holds : tie.Need-loop-holds Inv-loop μ-loop
 loop-holds c = search needs
 
-room-for-requires : tie.Need-room-for-requires Inv-loop μ-loop
-room-for-requires c κs = search needs
-
 page-through-requires : tie.Need-page-through-requires Inv-loop μ-loop
 page-through-requires c κs = search needs
 
-add-rows : tie.Need-add-rows Inv-loop μ-loop
-add-rows c = search needs
+add-most : tie.Need-add-most Inv-loop μ-loop
+add-most c = search needs
 
 loop-less : tie.Need-loop-less Inv-loop μ-loop
 loop-less c = search needs
@@ -40,11 +40,11 @@ page-through-from-start-spec =
     (tie.spec
     Inv-loop
     μ-loop
+    any-cursor-requires
     wrapping-add-usize-requires
     loop-holds
-    room-for-requires
     page-through-requires
-    add-rows
+    add-most
     loop-less
     loop-again
     returns)

@@ -1,0 +1,54 @@
+-- `reference::steer::make` is safe and ends.
+use Prim.Native.Nat.{_-_}
+use borrow.Author.Needs.{needs}
+use Rattle.reference.proofs.steer.make.Statement.{statement}
+use Rattle.reference.proofs.steer.make.Tie as tie
+
+abbrev Inv-loop : tie.InvT-loop
+Inv-loop seed₀ line tree₀ query₀ pairs₀ marks₀ a₀ i₀ seed tree query pairs marks a i = Unit {0}
+
+abbrev μ-loop : tie.MeasureT-loop
+μ-loop seed₀ line tree₀ query₀ pairs₀ marks₀ a₀ i₀ seed tree query pairs marks a i = 8 - i
+
+make-once-requires : tie.Need-make-once-requires Inv-loop μ-loop
+make-once-requires c κs = search needs
+
+loop-holds : tie.Need-loop-holds Inv-loop μ-loop
+loop-holds c = search needs
+
+have-gaps-requires : tie.Need-have-gaps-requires Inv-loop μ-loop
+have-gaps-requires c κs = search needs
+
+returns : tie.Need-returns Inv-loop μ-loop
+returns c = search needs
+
+make-once-requires-2 : tie.Need-make-once-requires-2 Inv-loop μ-loop
+make-once-requires-2 c κs = search needs
+
+add-i : tie.Need-add-i Inv-loop μ-loop
+add-i c = search needs
+
+loop-less : tie.Need-loop-less Inv-loop μ-loop
+loop-less c = search needs
+
+loop-again : tie.Need-loop-again Inv-loop μ-loop
+loop-again c = search needs
+
+returns-2 : tie.Need-returns-2 Inv-loop μ-loop
+returns-2 c = search needs
+
+pub make-spec : {M : Type 1} → statement M
+make-spec =
+    tie.close
+    (tie.spec
+    Inv-loop
+    μ-loop
+    make-once-requires
+    loop-holds
+    have-gaps-requires
+    returns
+    make-once-requires-2
+    add-i
+    loop-less
+    loop-again
+    returns-2)

@@ -1,0 +1,209 @@
+// Faults in what a page is lent: another tree, another query, another number of variables, another cursor, or too little room;
+// each with the reply that is due.
+use super::evaluator;
+use super::listing;
+use super::random;
+use harness::table;
+
+fn reply(number: usize, place: usize) -> model::Reply {
+    model::Reply {
+        number: table::narrow(number),
+        place: table::narrow(place),
+    }
+}
+
+// A tree ends within a node, a node is its own parent, or its tag is reserved.
+fn in_tree(seed: &mut u64, tree: &mut table::Table) -> model::Reply {
+    let x = random::below(seed, table::size(tree));
+    let parent = std::num::wrapping_add_usize(x, x);
+    let tag = std::num::wrapping_add_usize(parent, 1);
+    let fault = random::below(seed, 3);
+    if fault == 0 {
+        table::set_length(tree, tag);
+        return reply(5, 0);
+    }
+    if fault == 1 {
+        table::put(tree, parent, x);
+        return reply(6, x);
+    }
+    table::put(tree, tag, random::between(seed, 65534, 65535));
+    reply(7, x)
+}
+
+// The number of refusal for a left field that is too high: an operand, or else an axis or a variable.
+fn too_high(kind: usize) -> usize {
+    if random::left(kind) == 0 {
+        return 11;
+    }
+    12
+}
+
+// A query ends within entry e, or a field of that entry is at fault.
+fn in_entry(query: &mut table::Table, e: usize, fault: usize) -> model::Reply {
+    let at = table::times(4, e);
+    if fault == 0 {
+        table::set_length(query, std::num::wrapping_add_usize(at, 3));
+        return reply(8, 0);
+    }
+    if fault == 1 {
+        table::put(query, at, 13);
+        return reply(10, e);
+    }
+    if fault == 2 {
+        table::put(query, std::num::wrapping_add_usize(at, 3), 65534);
+        return reply(11, e);
+    }
+    let kind = table::at(table::numbers(query), at);
+    table::put(query, std::num::wrapping_add_usize(at, 1), 64);
+    reply(too_high(kind), e)
+}
+
+// A query has one entry more: a step, so that the one before is never an operand; a path negated; or an expression.
+fn at_end(query: &mut table::Table, last: usize, fault: usize) -> model::Reply {
+    let end = std::num::wrapping_add_usize(last, 1);
+    if fault == 4 {
+        random::append(query, random::entry(0, 0, 0, 65535));
+        return reply(14, last);
+    }
+    if fault == 5 {
+        random::append(query, random::entry(9, last, 0, 0));
+        return reply(13, end);
+    }
+    random::append(query, random::entry(8, last, 0, 0));
+    reply(15, end)
+}
+
+// A query of fewer than 64 entries gets a fault of any number but 9.
+fn in_query(seed: &mut u64, query: &mut table::Table) -> model::Reply {
+    let last = table::last(query);
+    let e = random::between(seed, 0, last);
+    let fault = random::below(seed, 7);
+    if fault < 4 {
+        return in_entry(query, e, fault);
+    }
+    at_end(query, last, fault)
+}
+
+// The first entry that names a variable at or above a number; 64 if none does.
+fn first_beyond(query: &[u16], columns: usize) -> usize {
+    let mut e = 0;
+    while e < 64 {
+        let f = evaluator::entry_of(query, e);
+        if ((f.kind == 6) | (f.kind == 12)) & (columns <= f.left) {
+            return e;
+        }
+        e += 1;
+    }
+    64
+}
+
+// What a refused call is lent beside the tables, and the reply that is due.
+pub struct Fault {
+    pub columns: usize,
+    pub room: usize,
+    pub cursor: model::Cursor,
+    pub reply: model::Reply,
+}
+
+fn lent(columns: usize, room: usize, cursor: model::Cursor, reply: model::Reply) -> Fault {
+    Fault {
+        columns: columns,
+        room: room,
+        cursor: cursor,
+        reply: reply,
+    }
+}
+
+// Fewer variables than the query names, but not none; where that is no fault, none or more than three.
+fn in_count(
+    seed: &mut u64,
+    query: &table::Table,
+    columns: usize,
+    room: usize,
+    cursor: model::Cursor,
+) -> Fault {
+    let fewer = random::below(seed, columns);
+    let e = first_beyond(table::numbers(query), fewer);
+    if (fewer == 0) | (e == 64) {
+        let many = table::times(4, random::below(seed, 3));
+        return lent(many, room, cursor, reply(9, 0));
+    }
+    lent(fewer, room, cursor, reply(11, e))
+}
+
+// A cursor that holds anything, begun as any byte but 0 says.
+pub fn any_cursor(seed: &mut u64) -> model::Cursor {
+    model::Cursor {
+        begun: table::byte(random::between(seed, 1, 255)),
+        first: table::narrow(random::below(seed, 65536)),
+        second: table::narrow(random::below(seed, 65536)),
+        third: table::narrow(random::below(seed, 65536)),
+    }
+}
+
+// The cursor at any row, but with no node for one of the variables.
+fn in_cursor(seed: &mut u64, s: listing::Space, room: usize) -> Fault {
+    let k = random::below(seed, s.columns);
+    let any = any_cursor(seed);
+    let cursor = listing::cursor_at(s, any, random::below(seed, s.count));
+    let none = table::narrow(random::between(seed, s.n, 65535));
+    let bad = model::Cursor {
+        begun: any.begun,
+        first: listing::choose(k == 0, none, cursor.first),
+        second: listing::choose(k == 1, none, cursor.second),
+        third: listing::choose(k == 2, none, cursor.third),
+    };
+    lent(s.columns, room, bad, reply(17, k))
+}
+
+// A fault in one of the tables.
+fn in_table(
+    seed: &mut u64,
+    tree: &mut table::Table,
+    query: &mut table::Table,
+    which: usize,
+) -> model::Reply {
+    if which == 0 {
+        return in_tree(seed, tree);
+    }
+    in_query(seed, query)
+}
+
+// Puts any fault into what a page would be lent. But for the last the room is any, since an earlier fault is told first.
+pub fn put(
+    seed: &mut u64,
+    tree: &mut table::Table,
+    query: &mut table::Table,
+    s: listing::Space,
+    cursor: model::Cursor,
+) -> Fault {
+    let which = random::below(seed, 5);
+    let room = random::below(seed, table::times(3, s.columns));
+    if which < 2 {
+        return lent(s.columns, room, cursor, in_table(seed, tree, query, which));
+    }
+    if which == 2 {
+        return in_count(seed, query, s.columns, room, cursor);
+    }
+    if which == 3 {
+        return in_cursor(seed, s, room);
+    }
+    let little = random::below(seed, s.columns);
+    lent(s.columns, little, cursor, reply(20, 0))
+}
+
+// Every other time the cursor is changed where a page does not read it, if it has begun: which byte says so, and the numbers
+// beyond the variables.
+pub fn scrambled(seed: &mut u64, s: listing::Space, cursor: model::Cursor) -> model::Cursor {
+    let keeps = random::below(seed, 2) == 0;
+    if (cursor.begun == 0) | keeps {
+        return cursor;
+    }
+    let any = any_cursor(seed);
+    model::Cursor {
+        begun: any.begun,
+        first: cursor.first,
+        second: listing::choose(1 < s.columns, cursor.second, any.second),
+        third: listing::choose(2 < s.columns, cursor.third, any.third),
+    }
+}
