@@ -116,12 +116,11 @@ no-page c g d =
 -- Calls that page through the same answers.
 
 -- what one call gave, where the answers from m on were those after the cursor
-pub record Step (l : Lent) (m : ℕ) (g : Call) : Type 0 where
-  pub wrote : rowsIn (g .lent .columns) (g .reply .count) (g .buffer) ≡ take (roomOf g) (drop m (answersOf l))
-  pub count : g .reply .count ≡ min (roomOf g) (length (answersOf l) - m)
-  pub next : after (l .columns) (answersOf l) (g .cursor) ≡ drop (m + roomOf g) (answersOf l)
-  pub more : accepted g ≡ true → g .reply .more ≡ ltb (min (length (answersOf l)) (m + roomOf g)) (length (answersOf l))
-  pub refused : accepted g ≡ false → (g .reply .count ≡ 0) × (g .reply .more ≡ false)
+record Step (l : Lent) (m : ℕ) (g : Call) : Type 0 where
+  wrote : rowsIn (g .lent .columns) (g .reply .count) (g .buffer) ≡ take (roomOf g) (drop m (answersOf l))
+  count : g .reply .count ≡ min (roomOf g) (length (answersOf l) - m)
+  next : after (l .columns) (answersOf l) (g .cursor) ≡ drop (m + roomOf g) (answersOf l)
+  more : accepted g ≡ true → g .reply .more ≡ ltb (min (length (answersOf l)) (m + roomOf g)) (length (answersOf l))
 
 -- an accepted call
 step-accepted : (c : Cursor) (m : ℕ) (l : Lent) (buffer : List ℕ) → l .columns ≤ 3 → after (l .columns) (answersOf l) c ≡ drop m (answersOf l)
@@ -132,7 +131,6 @@ step-accepted c m l buffer small h =
       count = rw (h, length-take r (drop m L), length-drop m L);
       next = after-page k L rising wide small c m r h;
       more = λ _. rw h (some-after k L rising wide small m r);
-      refused = λ e. no-yes e refl;
     }
   where
     k : ℕ
@@ -159,11 +157,10 @@ step-refused l c m l₁ buffer v h t =
       count = rw t (omega arith);
       next = rw (t, add-zero m) h;
       more = λ e. no-yes t e;
-      refused = λ _. (refl, refl);
     }
 
 -- one call from a place on
-pub step : (l : Lent) (c : Cursor) (m : ℕ) (g : Call) → after (l .columns) (answersOf l) c ≡ drop m (answersOf l) → Meets c g
+step : (l : Lent) (c : Cursor) (m : ℕ) (g : Call) → after (l .columns) (answersOf l) c ≡ drop m (answersOf l) → Meets c g
     → (accepted g ≡ true → g .lent ≡ l) → Step l m g
 step l c m g h d alike =
     by-call (Step l m) c g d
