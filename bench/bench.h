@@ -1,6 +1,15 @@
-/* What the benchmark's driver and the engines share. */
+/* What the benchmark's programs and the engines share. */
 #include <stddef.h>
 #include <stdint.h>
+#include <time.h>
+
+/* Nanoseconds, from some moment on. */
+static inline double now(void)
+{
+    struct timespec t;
+    clock_gettime(CLOCK_MONOTONIC, &t);
+    return t.tv_sec * 1e9 + t.tv_nsec;
+}
 
 /* A query as text, for engines that compile it, and as a table; reached has, for each start node x and each node y at
    x * NODES + y, whether y is reached from x. */

@@ -2,13 +2,11 @@
    node: an engine that does not find exactly the nodes of tables.h ends the run with status 1. Then it times one call from
    node 0: the best of ROUNDS rounds of at least ROUND_NS, the engines taking turns. It prints a table in Markdown:
    nanoseconds a call, and how many times the first engine's they are. */
-#define _POSIX_C_SOURCE 199309L
 #include "bench.h"
 #include "tables.h"
 #include <stdio.h>
 #include <stdlib.h>
 #include <string.h>
-#include <time.h>
 
 #define QUERIES (sizeof queries / sizeof *queries)
 #define ROUNDS 7
@@ -25,13 +23,6 @@ void give_up(const char *why)
 {
     fprintf(stderr, "bench: %s\n", why);
     exit(1);
-}
-
-static double now(void)
-{
-    struct timespec t;
-    clock_gettime(CLOCK_MONOTONIC, &t);
-    return t.tv_sec * 1e9 + t.tv_nsec;
 }
 
 static void compare(const struct engine *engine, const struct query *query)

@@ -1,24 +1,15 @@
 /* Times pages of answers over the C boundary: rows a second for one, two and three variables at 6, 64 and 256 nodes. The trees
    are the first nodes of the benchmark's tree. A run pages through the answers with a buffer of PAGE rows, from a fresh cursor,
    until they end or RUN_NS have passed, and counts the rows that it was given. It prints a table in Markdown. */
-#define _POSIX_C_SOURCE 199309L
 #include "geznauri.h"
 #include "bench.h"
 #include "tables.h"
 #include <stdio.h>
 #include <stdlib.h>
 #include <string.h>
-#include <time.h>
 
 #define PAGE 256
 #define RUN_NS 3e8
-
-static double now(void)
-{
-    struct timespec t;
-    clock_gettime(CLOCK_MONOTONIC, &t);
-    return t.tv_sec * 1e9 + t.tv_nsec;
-}
 
 /* Rows a second of one query over the first n nodes. */
 static double rate(const uint16_t *query, size_t length, uint16_t columns, size_t n)

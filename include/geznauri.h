@@ -2,23 +2,24 @@
  * Geznauri: queries over small trees, for C.
  *
  * The engine answers Core XPath queries with intersect, except and node variables over trees of up to 256 nodes. Trees and
- * queries are lent to it as tables of 16-bit numbers; this page describes them, every function, and every reply.
+ * queries are lent to it as tables of 16-bit numbers, and gz_read makes the table of a query that is typed. This page describes
+ * them, every function, and every reply.
  *
  * To link: `./build` writes target/staticlib/libterminal.a, for x86-64 Linux.
  *
  *     cc -I include program.c target/staticlib/libterminal.a
  *
- * The archive defines the functions of section 9 and no other global symbol. It needs two functions of the C library, which
- * compilers call of their own accord: memcpy, memset. It has less than 40 KiB of code and constants, and has no variables.
+ * The archive defines the functions of section 10 and no other global symbol. It needs two functions of the C library, which
+ * compilers call of their own accord: memcpy, memset. It has less than 48 KiB of code and constants, and has no variables.
  *
  * Contents:  1 For every call   2 Tree table   3 Query table   4 Node sets and relations   5 Answers, pages, cursors
- *            6 Name tables   7 Numbers of refusal   8 Types   9 Functions
+ *            6 Name tables   7 Typed queries   8 Numbers of refusal   9 Types   10 Functions
  *
  *
  * 1  FOR EVERY CALL
  *
  * Any contents are taken: every number and byte that is lent may hold any value. Each function checks all that it is lent, in
- * every call; what it cannot take it refuses by number and place (section 7). A refused call writes nothing, but for gz_name,
+ * every call; what it cannot take it refuses by number and place (section 8). A refused call writes nothing, but for gz_name,
  * which then hands back an empty part. There are no errors of any other kind: every call returns, sets no errno, takes no memory
  * from the heap and makes no system call.
  *
@@ -32,9 +33,9 @@
  * Threads. No function keeps anything between calls, and there is no global state: calls may run at the same time on any
  * number of threads, with the same tables too, so long as each has its own buffer and cursor.
  *
- * Stack. gz_check_tree, gz_check_query and gz_name take less than 1 KiB. The others take less than 8 KiB for a query of one
- * level, and less than 4 KiB for each further level of its nesting (section 3); there are 64 levels at most, so that no call
- * takes 260 KiB.
+ * Stack. gz_check_tree, gz_check_query and gz_name take less than 1 KiB, and gz_read takes less than 4 KiB, however deep its text
+ * nests. The others take less than 8 KiB for a query of one level, and less than 4 KiB for each further level of its nesting
+ * (section 3); there are 64 levels at most, so that no call takes 260 KiB.
  *
  * Everything is counted from 0. Numbers of tables are in the machine's own byte order.
  *
@@ -150,11 +151,59 @@
  * first, then through the site's. Names are handed back as parts of the tables, not copied, and do not end in a zero byte.
  *
  *
- * 7  NUMBERS OF REFUSAL
+ * 7  TYPED QUERIES
+ *
+ * gz_read makes the query table of a text of 1 to 1,024 bytes. The text is a Path of this grammar: what is quoted stands for
+ * itself, byte for byte, [ x ] is x or nothing, and { x } is x any number of times, also none.
+ *
+ *     Path         = Intersection { " union " Intersection }
+ *     Intersection = Run { ( " intersect " | " except " ) Run }
+ *     Run          = [ "/" | "//" ] Step { ( "/" | "//" ) Step }
+ *     Step         = Primary { "[" Test "]" }
+ *     Primary      = axis "::" ( "*" | name ) | "." | ".." | "$0" | "$1" | "$2" | "(" Path ")"
+ *     Test         = Conjunction { " or " Conjunction }
+ *     Conjunction  = Unit { " and " Unit }
+ *     Unit         = Path | "not(" Test ")" | ". is $0" | ". is $1" | ". is $2" | "(" Test ")"
+ *     axis         = an axis of section 3, written out
+ *     name         = one or more ASCII letters, digits, "-" and "_"
+ *
+ * What is repeated groups leftwards, and a bracket that holds a whole Path is a Path, so that a text has one reading at most.
+ * Word operators and `is` have one space on each side, and there is no other space.
+ *
+ *     typed           stands for                                                       kind
+ *     axis::name      a step, with the lowest tag that has the name                     0
+ *     axis::*         a step with the star                                              0
+ *     .   ..          self::* and parent::*                                             0
+ *     a/b             a composed with b                                                 1
+ *     a//b            a, descendant-or-self::* and b, composed leftwards                1
+ *     union, intersect, except                                                          2, 3, 4
+ *     a[t]            a filtered by t                                                   5
+ *     $0              variable 0                                                        6
+ *     /a   //a        from the root: the whole run behind it, and the run that has      7
+ *                     descendant-or-self::* before its first step
+ *     a as a Unit     some                                                              8
+ *     not(t), and, or, . is $0                                                          9, 10, 11, 12
+ *     (a)   (t)       what it holds: a bracket makes no entry
+ *
+ * An entry stands behind its operands, and the left operand's entries stand before the right's. The number of variables is one
+ * more than the highest behind a $, or 0. Names are looked up in the name tables of section 6, byte for byte, house before site,
+ * among the tags up to 65533; a name of more than 32 bytes has no tag.
+ *
+ * With the house's names store, hall, bay and the site's name pallet, descendant::bay[. is $0]/child::pallet[. is $1] is read as
+ * the table of section 3, with two variables. Some refusals:
+ *
+ *     child::bay[child::pallet      24 at 24, the length: the text is not finished
+ *     child::bay or self::*         24 at 11: the space may begin union, intersect or except, but or joins tests
+ *     child::bay/ child::pallet     24 at 11: no space stands beside a slash
+ *     child::shelf                  25 at 7: no tag has the name
+ *
+ *
+ * 8  NUMBERS OF REFUSAL
  *
  * A reply has number 0 and place 0 if the call is accepted. Else number says what is wrong and place where. Checks are made
  * in the order of the numbers, each over all that it looks at before the next begins; the first that fails is the reply, at
- * the lowest place that is at fault. Each function makes the checks that its description in section 9 names.
+ * the lowest place that is at fault. gz_read alone has another order: 21, 23, 24, 25, 26, 20. Each function makes the checks that
+ * its description in section 10 names.
  *
  *      number   refused because                                                             place
  *       5       the tree table is empty, of odd length, or longer than 512 numbers          0
@@ -176,10 +225,18 @@
  *               cursor, is not below n
  *      18       the node set is not n bytes long                                            0
  *      19       a byte of the node set is above 1                                           the byte
- *      20       the buffer has room for less than n bytes, n * n bytes or one row           0
+ *      20       the buffer has room for less than n bytes, n * n bytes, one row, or         0
+ *               the table of the typed query
  *      21       a name table has a length byte of 0 or above 32, or a name that runs        0 the house's,
  *               past its end                                                                1 the site's
  *      22       the tag is above 65533 or has no name                                       0
+ *      23       the text is empty or longer than 1,024 bytes                                0
+ *      24       the text is no Path of the grammar                                          the first byte with which no
+ *                                                                                           Path, of any length, goes on
+ *                                                                                           from the bytes before it, or
+ *                                                                                           the text's length
+ *      25       a typed name is the name of no tag up to 65533                              the name's first byte
+ *      26       the typed query has more than 64 entries                                    0
  *
  * Numbers 1 to 4 are of job files, which no function here reads.
  */
@@ -194,13 +251,13 @@
    program that was written to the header before may break: another reply to the same call, a refusal of what was accepted or the
    reverse, another type, size or name. GZ_VERSION_MINOR is counted up where something is added and all else is as it was. */
 #define GZ_VERSION_MAJOR 1
-#define GZ_VERSION_MINOR 0
+#define GZ_VERSION_MINOR 1
 
 #ifdef __cplusplus
 extern "C" {
 #endif
 
-/* 8  TYPES */
+/* 9  TYPES */
 
 /* The reply to a call: 0 and 0, or the number and the place of a refusal. */
 typedef struct {
@@ -214,6 +271,14 @@ typedef struct {
     size_t count;
     bool more;
 } gz_page_reply;
+
+/* The reply to a reading: number and place as above, how many numbers the table has, and how many variables the query has. Of a
+   refused call, count and columns are 0. */
+typedef struct {
+    uint16_t number, place;
+    size_t count;
+    uint16_t columns;
+} gz_read_reply;
 
 /* Where a caller stands in the answers of a query: whether it has begun, and the last row given, one node for each variable.
    All zero is a fresh cursor. Every byte of begun has a meaning: 0 is fresh, and any other byte is begun. While it is 0, last
@@ -229,7 +294,7 @@ typedef struct {
     size_t length;
 } gz_part;
 
-/* 9  FUNCTIONS */
+/* 10  FUNCTIONS */
 
 /* The check of a tree table: refusals 5 to 7. Time in proportion to tree_len. */
 gz_reply gz_check_tree(const uint16_t *tree, size_t tree_len);
@@ -270,6 +335,15 @@ gz_page_reply gz_page(const uint16_t *tree, size_t tree_len, const uint16_t *que
    or the site's table that is the name, without its length byte; refused, *name is the empty part at the start of the
    house's table. What *name held before is not read. Time in proportion to the tables' lengths. */
 gz_reply gz_name(const uint8_t *house, size_t house_len, const uint8_t *site, size_t site_len, uint16_t tag, gz_part *name);
+
+/* The query table of a typed query, with the names of the house's and the site's table. Refusals 21, 23, 24, 25, 26 and 20, in
+   this order: the name tables, the text's length, its grammar, its names, its entries, the buffer's room. A buffer of 256
+   numbers has room for every table.
+   Accepted, the table is the first count numbers of `query`, four an entry, and all later numbers are as they were; with columns
+   variables it passes gz_check_query. Refused, all of `query` is as it was. Time in proportion to text_len, plus a look through
+   the name tables, and one more for each name typed. */
+gz_read_reply gz_read(const uint8_t *text, size_t text_len, const uint8_t *house, size_t house_len, const uint8_t *site,
+                      size_t site_len, uint16_t *query, size_t query_len);
 
 #ifdef __cplusplus
 }

@@ -9,11 +9,13 @@
 _Static_assert(sizeof(gz_reply) == 4 && offsetof(gz_reply, number) == 0 && offsetof(gz_reply, place) == 2, "gz_reply");
 _Static_assert(sizeof(gz_page_reply) == 24 && offsetof(gz_page_reply, number) == 0 && offsetof(gz_page_reply, place) == 2, "gz_page_reply");
 _Static_assert(offsetof(gz_page_reply, count) == 8 && offsetof(gz_page_reply, more) == 16, "gz_page_reply");
+_Static_assert(sizeof(gz_read_reply) == 24 && offsetof(gz_read_reply, number) == 0 && offsetof(gz_read_reply, place) == 2, "gz_read_reply");
+_Static_assert(offsetof(gz_read_reply, count) == 8 && offsetof(gz_read_reply, columns) == 16, "gz_read_reply");
 _Static_assert(sizeof(gz_cursor) == 8 && offsetof(gz_cursor, begun) == 0 && offsetof(gz_cursor, last) == 2, "gz_cursor");
 _Static_assert(sizeof(gz_part) == 16 && offsetof(gz_part, start) == 0 && offsetof(gz_part, length) == 8, "gz_part");
 _Static_assert(sizeof(bool) == 1 && sizeof(size_t) == 8, "bool and size_t");
-#if GZ_VERSION_MAJOR != 1 || !defined(GZ_VERSION_MINOR)
-#error "this program is written to version 1 of the header"
+#if GZ_VERSION_MAJOR != 1 || GZ_VERSION_MINOR < 1
+#error "this program is written to version 1.1 of the header"
 #endif
 
 #define PATTERN 0xA5
@@ -314,7 +316,7 @@ static void pages(void)
 /* Names. */
 
 static const uint8_t house[] = "\5store\4hall\3bay", site[] = "\6pallet";
-#define TABLE(a) a, sizeof(a) - 1
+#define TABLE(a) (const uint8_t *)(a), sizeof(a) - 1
 
 static void name(const char *what, const uint8_t *h, size_t h_len, const uint8_t *s, size_t s_len, uint16_t tag, uint16_t number,
                  uint16_t place, const uint8_t *start, size_t length)
@@ -347,6 +349,358 @@ static void names(void)
     name("both tables", zero, 6 + 1, site, 6, 0, 21, 0, zero, 0);
 }
 
+/* Typed queries. The text and the name tables stand in memory that is filled with the pattern, as the buffer does, and all of it is
+   compared. */
+
+#define LONGEST 140000
+static struct bytes_lent {
+    uint8_t memory[MARGIN + LONGEST + MARGIN], before[MARGIN + LONGEST + MARGIN];
+} text_lent, house_lent, site_lent;
+
+static const uint8_t *lend(struct bytes_lent *l, const uint8_t *from, size_t length)
+{
+    memset(l->memory, PATTERN, MARGIN + length + MARGIN);
+    if (length != 0)
+        memcpy(l->memory + MARGIN, from, length);
+    memcpy(l->before, l->memory, MARGIN + length + MARGIN);
+    return length == 0 ? NULL : l->memory + MARGIN;
+}
+
+static bool kept(const struct bytes_lent *l, size_t length)
+{
+    return memcmp(l->memory, l->before, MARGIN + length + MARGIN) == 0;
+}
+
+struct vocabulary {
+    const uint8_t *house;
+    size_t house_len;
+    const uint8_t *site;
+    size_t site_len;
+};
+#define NAMES(h, s) (struct vocabulary){TABLE(h), TABLE(s)}
+#define TEACHING NAMES(house, site) /* store, hall, bay, pallet: the tags 0 to 3 */
+#define READ(count, columns) (gz_read_reply){0, 0, count, columns}
+#define UNREAD(number, place) (gz_read_reply){number, place, 0, 0}
+
+static void reading(const char *what, const uint8_t *text, size_t text_len, struct vocabulary v, size_t room, gz_read_reply reply,
+                    const uint16_t *table, size_t table_len)
+{
+    uint16_t memory[MARGIN + 300 + MARGIN], wanted[LENGTH(memory)];
+    const uint8_t *t = lend(&text_lent, text, text_len), *h = lend(&house_lent, v.house, v.house_len),
+                  *s = lend(&site_lent, v.site, v.site_len);
+    memset(memory, PATTERN, sizeof memory);
+    memset(wanted, PATTERN, sizeof wanted);
+    if (table_len != 0)
+        memcpy(wanted + MARGIN, table, table_len * sizeof *table);
+    gz_read_reply r = gz_read(t, text_len, h, v.house_len, s, v.site_len, room == 0 ? NULL : memory + MARGIN, room);
+    expect(r.number == reply.number && r.place == reply.place, "gz_read", what, "reply");
+    expect(r.count == reply.count && r.columns == reply.columns, "gz_read", what, "count or columns");
+    expect(memcmp(memory, wanted, sizeof memory) == 0, "gz_read", what, "buffer");
+    expect(kept(&text_lent, text_len) && kept(&house_lent, v.house_len) && kept(&site_lent, v.site_len), "gz_read", what, "lent bytes");
+}
+
+/* A text that is read into a buffer that has just the room, into one that has more, and not into one that has less. */
+static void reads(const char *text, struct vocabulary v, uint16_t columns, const uint16_t *table, size_t table_len)
+{
+    const uint8_t *t = (const uint8_t *)text;
+    reading(text, t, strlen(text), v, table_len, READ(table_len, columns), table, table_len);
+    reading(text, t, strlen(text), v, 300, READ(table_len, columns), table, table_len);
+    reading(text, t, strlen(text), v, table_len - 1, UNREAD(20, 0), NOTHING);
+}
+
+static void refuses(const char *text, struct vocabulary v, size_t room, uint16_t number, uint16_t place)
+{
+    reading(text, (const uint8_t *)text, strlen(text), v, room, UNREAD(number, place), NOTHING);
+}
+
+/* Entries of no, one and two operands. */
+#define STEP(axis, tag) 0, axis, 0, tag
+#define STAR 65535
+#define SELF STEP(0, STAR)
+#define PARENT STEP(2, STAR)
+#define BELOW STEP(11, STAR)
+#define ONE(kind, left) kind, left, 0, 0
+#define TWO(kind, left, right) kind, left, right, 0
+
+/* The worked readings and refusals of docs/REFERENCE.md; tests/source/reference_examples.py compares the lines. */
+static void worked(void)
+{
+    reads("child::pallet", TEACHING, 0, NUMBERS(0, 1, 0, 3));
+    reads(".", TEACHING, 0, NUMBERS(0, 0, 0, 65535));
+    reads("$1", TEACHING, 2, NUMBERS(6, 1, 0, 0));
+    reads("((..))", TEACHING, 0, NUMBERS(0, 2, 0, 65535));
+    reads("/child::bay", TEACHING, 0, NUMBERS(0, 1, 0, 2, 7, 0, 0, 0));
+    reads("//child::pallet", TEACHING, 0, NUMBERS(0, 11, 0, 65535, 0, 1, 0, 3, 1, 0, 1, 0, 7, 2, 0, 0));
+    reads("child::bay//..", TEACHING, 0, NUMBERS(0, 1, 0, 2, 0, 11, 0, 65535, 1, 0, 1, 0, 0, 2, 0, 65535, 1, 2, 3, 0));
+    reads("//child::bay/..", TEACHING, 0,
+          NUMBERS(0, 11, 0, 65535, 0, 1, 0, 2, 1, 0, 1, 0, 0, 2, 0, 65535, 1, 2, 3, 0, 7, 4, 0, 0));
+    reads(". except .. intersect $0", TEACHING, 1, NUMBERS(0, 0, 0, 65535, 0, 2, 0, 65535, 4, 0, 1, 0, 6, 0, 0, 0, 3, 2, 3, 0));
+    reads(". union .. except $0", TEACHING, 1, NUMBERS(0, 0, 0, 65535, 0, 2, 0, 65535, 6, 0, 0, 0, 4, 1, 2, 0, 2, 0, 3, 0));
+    reads(".[. is $2]", TEACHING, 3, NUMBERS(0, 0, 0, 65535, 12, 2, 0, 0, 5, 0, 1, 0));
+    reads(".[(..)/$0]", TEACHING, 1, NUMBERS(0, 0, 0, 65535, 0, 2, 0, 65535, 6, 0, 0, 0, 1, 1, 2, 0, 8, 3, 0, 0, 5, 0, 4, 0));
+    reads(".[.. or $0 and .]", TEACHING, 1,
+          NUMBERS(0, 0, 0, 65535, 0, 2, 0, 65535, 8, 1, 0, 0, 6, 0, 0, 0, 8, 3, 0, 0, 0, 0, 0, 65535, 8, 5, 0, 0, 10, 4,
+                  6, 0, 11, 2, 7, 0, 5, 0, 8, 0));
+    reads("child::bay[child::pallet and not(right::*)]", TEACHING, 0,
+          NUMBERS(0, 1, 0, 2, 0, 1, 0, 3, 8, 1, 0, 0, 0, 3, 0, 65535, 8, 3, 0, 0, 9, 4, 0, 0, 10, 2, 5, 0, 5, 0, 6, 0));
+    reads("descendant::bay[. is $0]/child::pallet[. is $1]", TEACHING, 2,
+          NUMBERS(0, 5, 0, 2, 12, 0, 0, 0, 5, 0, 1, 0, 0, 1, 0, 3, 12, 1, 0, 0, 5, 3, 4, 0, 1, 2, 5, 0));
+    refuses("child::bay[child::pallet", TEACHING, 256, 24, 24);
+    refuses("child:bay", TEACHING, 256, 24, 6);
+    refuses("pallet", TEACHING, 256, 24, 2);
+    refuses("Child::bay", TEACHING, 256, 24, 0);
+    refuses("child::bay or child::pallet", TEACHING, 256, 24, 11);
+    refuses(". is $0", TEACHING, 256, 24, 3);
+    refuses("child::bay  union ..", TEACHING, 256, 24, 11);
+    refuses("child::bay/ child::pallet", TEACHING, 256, 24, 11);
+    refuses("/", TEACHING, 256, 24, 1);
+    refuses(".[not(..)/.]", TEACHING, 256, 24, 9);
+    refuses(".[(.. or $0)/.]", TEACHING, 256, 24, 12);
+    refuses(".[(..) is $0]", TEACHING, 256, 24, 8);
+    refuses("$3", TEACHING, 256, 24, 1);
+    refuses("child::shelf", TEACHING, 256, 25, 7);
+    refuses("child::shelf[..]/child::", TEACHING, 256, 24, 24);
+    refuses("child::bay[child::none or child::shelf]", TEACHING, 256, 25, 18);
+}
+
+static void paths(void)
+{
+    static const char *const axes[] = {"self", "child", "parent", "right", "left", "descendant", "ancestor", "following", "preceding",
+                                       "following-sibling", "preceding-sibling", "descendant-or-self", "ancestor-or-self"};
+    for (uint16_t axis = 0; axis < LENGTH(axes); axis++) {
+        char text[32];
+        snprintf(text, sizeof text, "%s::*", axes[axis]);
+        reads(text, TEACHING, 0, NUMBERS(STEP(axis, STAR)));
+        snprintf(text, sizeof text, "%s::pallet", axes[axis]);
+        reads(text, TEACHING, 0, NUMBERS(STEP(axis, 3)));
+    }
+    reads("..", TEACHING, 0, NUMBERS(PARENT));
+    reads("$0", TEACHING, 1, NUMBERS(ONE(6, 0)));
+    reads("($1)", TEACHING, 2, NUMBERS(ONE(6, 1)));
+    reads("$2", TEACHING, 3, NUMBERS(ONE(6, 2)));
+
+    /* slashes group leftwards, and a leading one takes the whole run */
+    reads("child::bay/child::pallet/..", TEACHING, 0, NUMBERS(STEP(1, 2), STEP(1, 3), TWO(1, 0, 1), PARENT, TWO(1, 2, 3)));
+    reads("child::bay/(child::pallet/..)", TEACHING, 0, NUMBERS(STEP(1, 2), STEP(1, 3), PARENT, TWO(1, 1, 2), TWO(1, 0, 3)));
+    reads("child::bay//child::pallet", TEACHING, 0, NUMBERS(STEP(1, 2), BELOW, TWO(1, 0, 1), STEP(1, 3), TWO(1, 2, 3)));
+    reads("/child::bay/..", TEACHING, 0, NUMBERS(STEP(1, 2), PARENT, TWO(1, 0, 1), ONE(7, 2)));
+    reads("(/child::bay)/..", TEACHING, 0, NUMBERS(STEP(1, 2), ONE(7, 0), PARENT, TWO(1, 1, 2)));
+    reads("/.//..", TEACHING, 0, NUMBERS(SELF, BELOW, TWO(1, 0, 1), PARENT, TWO(1, 2, 3), ONE(7, 4)));
+    reads("$1//$0", TEACHING, 2, NUMBERS(ONE(6, 1), BELOW, TWO(1, 0, 1), ONE(6, 0), TWO(1, 2, 3)));
+
+    /* the operators between paths, and that equals group leftwards */
+    reads(". union .. union $0", TEACHING, 1, NUMBERS(SELF, PARENT, TWO(2, 0, 1), ONE(6, 0), TWO(2, 2, 3)));
+    reads(". union (.. union $0)", TEACHING, 1, NUMBERS(SELF, PARENT, ONE(6, 0), TWO(2, 1, 2), TWO(2, 0, 3)));
+    reads(". intersect .. except $0", TEACHING, 1, NUMBERS(SELF, PARENT, TWO(3, 0, 1), ONE(6, 0), TWO(4, 2, 3)));
+    reads(". union .. except $0/.", TEACHING, 1, NUMBERS(SELF, PARENT, ONE(6, 0), SELF, TWO(1, 2, 3), TWO(4, 1, 4), TWO(2, 0, 5)));
+    reads(". intersect /.. union //$1", TEACHING, 2,
+          NUMBERS(SELF, PARENT, ONE(7, 1), TWO(3, 0, 2), BELOW, ONE(6, 1), TWO(1, 4, 5), ONE(7, 6), TWO(2, 3, 7)));
+}
+
+static void filters(void)
+{
+    reads(".[..][$0]", TEACHING, 1, NUMBERS(SELF, PARENT, ONE(8, 1), TWO(5, 0, 2), ONE(6, 0), ONE(8, 4), TWO(5, 3, 5)));
+    reads(".[..[$0]]", TEACHING, 1, NUMBERS(SELF, PARENT, ONE(6, 0), ONE(8, 2), TWO(5, 1, 3), ONE(8, 4), TWO(5, 0, 5)));
+    reads("./..[$0]", TEACHING, 1, NUMBERS(SELF, PARENT, ONE(6, 0), ONE(8, 2), TWO(5, 1, 3), TWO(1, 0, 4)));
+    reads("(./..)[$0]", TEACHING, 1, NUMBERS(SELF, PARENT, TWO(1, 0, 1), ONE(6, 0), ONE(8, 3), TWO(5, 2, 4)));
+    reads("/..[. is $2]", TEACHING, 3, NUMBERS(PARENT, ONE(12, 2), TWO(5, 0, 1), ONE(7, 2)));
+    reads(".[/..]", TEACHING, 0, NUMBERS(SELF, PARENT, ONE(7, 1), ONE(8, 2), TWO(5, 0, 3)));
+
+    /* the operators between tests */
+    reads(".[(.. or $0) and .]", TEACHING, 1,
+          NUMBERS(SELF, PARENT, ONE(8, 1), ONE(6, 0), ONE(8, 3), TWO(11, 2, 4), SELF, ONE(8, 6), TWO(10, 5, 7), TWO(5, 0, 8)));
+    reads(".[. is $0 or . is $1 or . is $2]", TEACHING, 3,
+          NUMBERS(SELF, ONE(12, 0), ONE(12, 1), TWO(11, 1, 2), ONE(12, 2), TWO(11, 3, 4), TWO(5, 0, 5)));
+    reads(".[. is $0 and (. is $1 and . is $2)]", TEACHING, 3,
+          NUMBERS(SELF, ONE(12, 0), ONE(12, 1), ONE(12, 2), TWO(10, 2, 3), TWO(10, 1, 4), TWO(5, 0, 5)));
+    reads(".[.. union $0 and .]", TEACHING, 1,
+          NUMBERS(SELF, PARENT, ONE(6, 0), TWO(2, 1, 2), ONE(8, 3), SELF, ONE(8, 5), TWO(10, 4, 6), TWO(5, 0, 7)));
+    reads(".[not(not((. is $0)))]", TEACHING, 1, NUMBERS(SELF, ONE(12, 0), ONE(9, 1), ONE(9, 2), TWO(5, 0, 3)));
+    reads(".[not(..)]", TEACHING, 0, NUMBERS(SELF, PARENT, ONE(8, 1), ONE(9, 2), TWO(5, 0, 3)));
+
+    /* a bracket that holds a whole path is a path */
+    reads(".[((..))/$0]", TEACHING, 1, NUMBERS(SELF, PARENT, ONE(6, 0), TWO(1, 1, 2), ONE(8, 3), TWO(5, 0, 4)));
+    reads(".[(..) union $0]", TEACHING, 1, NUMBERS(SELF, PARENT, ONE(6, 0), TWO(2, 1, 2), ONE(8, 3), TWO(5, 0, 4)));
+    reads(".[(..)[$0]]", TEACHING, 1, NUMBERS(SELF, PARENT, ONE(6, 0), ONE(8, 2), TWO(5, 1, 3), ONE(8, 4), TWO(5, 0, 5)));
+}
+
+static void typed_names(void)
+{
+    /* a name may be that of an operator or an axis, or hold no letter */
+    reads("child::or[child::and and child::not]", NAMES("\2or\3and", "\3not\4self"), 0,
+          NUMBERS(STEP(1, 0), STEP(1, 1), ONE(8, 1), STEP(1, 2), ONE(8, 3), TWO(10, 2, 4), TWO(5, 0, 5)));
+    reads("self::self union self::self", NAMES("", "\4self"), 0, NUMBERS(STEP(0, 0), STEP(0, 0), TWO(2, 0, 1)));
+    reads("child::-_0-9", NAMES("\5-_0-8", "\5-_0-9"), 0, NUMBERS(STEP(1, 1)));
+
+    /* of equal names the lowest tag counts; names that only begin alike, or are other letters, are other names */
+    reads("child::bay", NAMES("\3bay\3bay", "\3bay"), 0, NUMBERS(STEP(1, 0)));
+    reads("child::bay", NAMES("\2ba\4bays\3Bay\3bay\3bay", ""), 0, NUMBERS(STEP(1, 3)));
+    reads("child::bay", NAMES("\2ba\4bays", "\3Bay\3bay\3bay"), 0, NUMBERS(STEP(1, 3)));
+    refuses("child::bay", NAMES("\2ba\4bays\3Bay", "\7bay-bay"), 4, 25, 7);
+    refuses("child::bay", NAMES("", ""), 4, 25, 7);
+    reads("child::abcdefghijklmnopqrstuvwxyz012345", NAMES("", "\40abcdefghijklmnopqrstuvwxyz012345"), 0, NUMBERS(STEP(1, 0)));
+    refuses("child::abcdefghijklmnopqrstuvwxyz0123456", NAMES("", "\40abcdefghijklmnopqrstuvwxyz012345"), 4, 25, 7);
+    refuses("child::bay[child::shelf]/child::none", TEACHING, 256, 25, 18);
+    refuses("child::bay[child::pallet]/child::none", TEACHING, 256, 25, 33);
+
+    /* the tags 65533 and 65534 */
+    static uint8_t many[2 * 65534];
+    for (size_t i = 0; i < sizeof many; i += 2)
+        many[i] = 1, many[i + 1] = 'a';
+    reads("child::b", (struct vocabulary){many, 2 * 65533, TABLE("\1b")}, 0, NUMBERS(STEP(1, 65533)));
+    refuses("child::b", (struct vocabulary){many, 2 * 65534, TABLE("\1b")}, 4, 25, 7);
+    many[2 * 65533 + 1] = 'b';
+    reads("child::b", (struct vocabulary){SLICE(many), TABLE("\1b")}, 0, NUMBERS(STEP(1, 65533)));
+
+    /* every byte behind '::' */
+    static const char letters[] = "abcdefghijklmnopqrstuvwxyzABCDEFGHIJKLMNOPQRSTUVWXYZ0123456789-_";
+    uint8_t each[2 * (sizeof letters - 1)], text[] = "child::?";
+    for (size_t i = 0; i < sizeof letters - 1; i++)
+        each[2 * i] = 1, each[2 * i + 1] = (uint8_t)letters[i];
+    for (int byte = 0; byte < 256; byte++) {
+        const char *at = byte == 0 ? NULL : strchr(letters, byte);
+        struct vocabulary v = {SLICE(each), NOTHING};
+        text[7] = (uint8_t)byte;
+        if (at != NULL || byte == '*')
+            reading("a name or the star", text, 8, v, 4, READ(4, 0), NUMBERS(STEP(1, at != NULL ? (uint16_t)(at - letters) : STAR)));
+        else
+            reading("no name", text, 8, v, 4, UNREAD(24, 7), NOTHING);
+    }
+}
+
+/* Texts that are not read, and the place of each. */
+static const struct {
+    const char *text;
+    uint16_t place;
+} unread[] = {
+    {"child", 5}, {"child:", 6}, {"child::", 7}, {"childs::*", 5}, {"Child::*", 0}, {" child::*", 0},
+    {"child::* ", 9}, {"child::*  union .", 9}, {"child::*union .", 8}, {"child::* union.", 14},
+    {"child::* union  .", 15}, {"child::* or .", 9}, {"child::* and .", 9}, {". is $0", 3}, {".[. is $3]", 8},
+    {".[. is$0]", 6}, {".[ .]", 2}, {".[. ]", 4}, {".[.. is $0]", 6}, {".[(.) is $0]", 7},
+    {".[. is $0 union .]", 10}, {".[. is $0/.]", 9}, {".[. is $0[.]]", 9}, {".[not(.)/..]", 8},
+    {".[not(.)[.]]", 8}, {".[not .]", 5}, {"not(.)", 0}, {".[(. or .)/.]", 10}, {".[(. or .)[.]]", 10},
+    {".[(. or .) union .]", 11}, {"(. or .)", 3}, {".[(. and .]", 10}, {"(.]", 2}, {".[.)", 3}, {".)", 1},
+    {".]", 1}, {"...", 2}, {"$3", 1}, {"$", 1}, {"$00", 2}, {"/", 1}, {"//", 2}, {"///.", 2}, {".///.", 3},
+    {"./", 2}, {"./ .", 2}, {"/ .", 1}, {"/ union .", 1}, {"()", 1}, {".[]", 2}, {"child::**", 8},
+    {"child::bay::*", 10}, {"child::bay[child::pallet", 24}, {"child::$0", 7}, {"/child::bay or /child::bay", 12},
+    {". intersection .", 11}, {". unions .", 7}, {"attribute::*", 1}, {"following-siblings::*", 17},
+    {"descendant-or-self:*", 19}, {"child::a.b", 8}, {"child::\303\251", 7}, {"child::*[position()=1]", 10},
+    {"@a", 0}, {"a", 1}, {"*", 0}, {"child::bay|child::pallet", 10}, {"child::bay,child::pallet", 10},
+    {"child::bay\n", 10}, {".[.. or", 7}, {".[..]or .", 5},
+};
+
+static void refused_texts(void)
+{
+    static const uint8_t zeros[65537], zero[] = "\5store\0", long_name[] = "\41abcdefghijklmnopqrstuvwxyz0123456";
+
+    /* 21 before all else, and 23 before what the text holds */
+    reading("a length of 0", NOTHING, (struct vocabulary){TABLE(zero), TABLE(site)}, 0, UNREAD(21, 0), NOTHING);
+    reading("both tables", NOTHING, (struct vocabulary){TABLE(long_name), site, 6}, 0, UNREAD(21, 0), NOTHING);
+    reading("a name past the end", NOTHING, (struct vocabulary){TABLE(house), site, 6}, 0, UNREAD(21, 1), NOTHING);
+    refuses("child::bay", (struct vocabulary){TABLE(long_name), TABLE(site)}, 4, 21, 0);
+    refuses("child::bay", (struct vocabulary){TABLE(house), TABLE(zero)}, 4, 21, 1);
+    refuses("", TEACHING, 256, 23, 0);
+    reading("1,024 zeros", zeros, 1024, TEACHING, 0, UNREAD(24, 0), NOTHING);
+    reading("1,025 zeros", zeros, 1025, TEACHING, 0, UNREAD(23, 0), NOTHING);
+    reading("65,536 zeros", zeros, 65536, TEACHING, 0, UNREAD(23, 0), NOTHING);
+    reading("65,537 zeros", zeros, 65537, TEACHING, 0, UNREAD(23, 0), NOTHING);
+
+    /* 24, before names and room */
+    for (size_t i = 0; i < LENGTH(unread); i++)
+        refuses(unread[i].text, NAMES("", ""), 0, 24, unread[i].place);
+    for (int byte = 0; byte < 256; byte++) {
+        uint8_t text[1] = {(uint8_t)byte};
+        if (byte != '.')
+            reading("one byte", text, 1, TEACHING, 4, UNREAD(24, byte != 0 && strchr("/($acdflprs", byte) != NULL), NOTHING);
+    }
+
+    /* where a text that is read is cut, it is refused at its length or is read too */
+    static const char whole[] = "//self::*[not(child::bay or . is $2) and (..//child::pallet intersect $0)/right::*[.]] except left::*";
+    for (uint16_t length = 1; length <= 101; length++) {
+        uint16_t table[256];
+        gz_read_reply r = gz_read((const uint8_t *)whole, length, TABLE(house), TABLE(site), table, 256);
+        bool read = length == 9 || length == 86 || length == 101;
+        expect(read ? r.number == 0 : r.number == 24 && r.place == length, "gz_read", "a text that is cut", "reply");
+    }
+}
+
+/* The limits of a text and of a table. */
+static void limits(void)
+{
+    static uint8_t text[1025];
+    uint16_t table[256];
+    memset(text, '(', 511);
+    text[511] = text[512] = '.';
+    memset(text + 513, ')', 512);
+    reading("511 brackets", text, 1024, NAMES("", ""), 4, READ(4, 0), NUMBERS(PARENT));
+    reading("a byte more", text, 1025, NAMES("", ""), 4, UNREAD(23, 0), NOTHING);
+    memset(text, '(', 1024);
+    reading("brackets that stay open", text, 1024, NAMES("", ""), 4, UNREAD(24, 1024), NOTHING);
+    for (size_t i = 0; i < 1024; i++)
+        text[i] = ".["[i % 2];
+    reading("filters that stay open", text, 1024, NAMES("", ""), 4, UNREAD(24, 1024), NOTHING);
+    text[1023] = ']';
+    reading("a filter that has no end", text, 1024, NAMES("", ""), 4, UNREAD(24, 1024), NOTHING);
+    memcpy(text, "child::", 7);
+    memset(text + 7, 'a', 1017);
+    reading("a name of 1,017 bytes", text, 1024, NAMES("\1a", ""), 4, UNREAD(25, 7), NOTHING);
+
+    /* '/' and 32 times '.': 64 entries; with one more, 65 or 66 */
+    for (uint16_t e = 0; e < 63; e++) {
+        const uint16_t odd[] = {SELF}, even[] = {TWO(1, (uint16_t)(e - 2), (uint16_t)(e - 1))};
+        memcpy(table + 4 * e, e == 0 || e % 2 == 1 ? odd : even, sizeof odd);
+    }
+    memcpy(table + 4 * 63, (const uint16_t[]){ONE(7, 62)}, 8);
+    for (size_t i = 0; i < 1024; i++)
+        text[i] = "/."[i % 2];
+    reading("64 entries", text, 64, TEACHING, 256, READ(256, 0), SLICE(table));
+    reading("64 entries and more room", text, 64, TEACHING, 300, READ(256, 0), SLICE(table));
+    reading("64 entries and room for 255 numbers", text, 64, TEACHING, 255, UNREAD(20, 0), NOTHING);
+    reading("65 entries", text + 1, 65, TEACHING, 300, UNREAD(26, 0), NOTHING);
+    reading("66 entries and no room", text, 66, TEACHING, 0, UNREAD(26, 0), NOTHING);
+    reading("1,024 entries", text, 1024, TEACHING, 300, UNREAD(26, 0), NOTHING);
+    memcpy(text + 1001, "/child::shelf", 13);
+    reading("many entries and an unknown name", text, 1014, TEACHING, 300, UNREAD(25, 1009), NOTHING);
+    refuses("child::shelf[", TEACHING, 0, 24, 13);
+    refuses("child::shelf", TEACHING, 0, 25, 7);
+    refuses("child::bay", TEACHING, 0, 20, 0);
+}
+
+/* What is read is evaluated. */
+static void typed_image(const struct direction *d, const char *text, const char *from, const char *result)
+{
+    uint16_t table[256];
+    gz_read_reply r = gz_read((const uint8_t *)text, strlen(text), TABLE(house), TABLE(site), table, 256);
+    expect(r.number == 0, "gz_read", text, "reply");
+    query(text, table, r.count, r.columns, 0, 0);
+    image(d, text, LENT(table, r.count, r.columns, NOTHING), from, 6, 0, 0, result);
+}
+
+static void typed(void)
+{
+    const struct direction *f = &forwards, *b = &backwards;
+    worked();
+    paths();
+    filters();
+    typed_names();
+    refused_texts();
+    limits();
+    typed_image(f, "child::bay[child::pallet and not(right::*)]", "100000", "000010");
+    typed_image(f, "following::*", "001000", "000111");
+    typed_image(b, "child::pallet", "001001", "010010");
+    typed_image(f, "descendant::* except child::*", "110000", "001101");
+    typed_image(f, "/child::bay", "000001", "010010");
+    typed_image(f, "//child::pallet", "000001", "001101");
+    typed_image(f, ".//child::pallet[left::pallet]/..", "010000", "010000");
+    typed_image(f, "/descendant::bay[not(child::pallet/right::*)]//self::pallet", "100000", "000001");
+
+    gz_cursor cursor = {0};
+    uint16_t table[256];
+    static const char pairs[] = "descendant::bay[. is $0]/child::pallet[. is $1]";
+    gz_read_reply r = gz_read(TABLE(pairs), TABLE(house), TABLE(site), table, 256);
+    page(pairs, LENT(table, r.count, r.columns, NOTHING), &cursor, 64, ACCEPTED(3, false), NUMBERS(1, 2, 1, 3, 4, 5), AT(4, 5, 0));
+}
+
 int main(void)
 {
     trees();
@@ -355,6 +709,7 @@ int main(void)
     relations();
     pages();
     names();
+    typed();
     printf("%d compared, %d wrong\n", tried, failed);
     return failed != 0;
 }

@@ -21,6 +21,15 @@ struct PageReply {
 
 #[repr(C)]
 #[derive(Clone, Copy, Debug, PartialEq)]
+struct ReadReply {
+    number: u16,
+    place: u16,
+    count: usize,
+    columns: u16,
+}
+
+#[repr(C)]
+#[derive(Clone, Copy, Debug, PartialEq)]
 struct Cursor {
     begun: u8,
     last: [u16; 3],
@@ -35,6 +44,7 @@ struct Part {
 
 const _: () = assert!(size_of::<Reply>() == 4 && offset_of!(Reply, place) == 2);
 const _: () = assert!(size_of::<PageReply>() == 24 && offset_of!(PageReply, count) == 8 && offset_of!(PageReply, more) == 16);
+const _: () = assert!(size_of::<ReadReply>() == 24 && offset_of!(ReadReply, count) == 8 && offset_of!(ReadReply, columns) == 16);
 const _: () = assert!(size_of::<Cursor>() == 8 && offset_of!(Cursor, last) == 2);
 const _: () = assert!(size_of::<Part>() == 16 && offset_of!(Part, length) == 8);
 
@@ -63,6 +73,10 @@ extern "C" {
         rows: *mut u16, rows_len: usize,
     ) -> PageReply;
     fn gz_name(house: *const u8, house_len: usize, site: *const u8, site_len: usize, tag: u16, name: *mut Part) -> Reply;
+    fn gz_read(
+        text: *const u8, text_len: usize, house: *const u8, house_len: usize, site: *const u8, site_len: usize,
+        query: *mut u16, query_len: usize,
+    ) -> ReadReply;
 }
 
 // Safe forms: a slice is its pointer and its length.
@@ -101,6 +115,11 @@ fn name<'a>(house: &'a [u8], site: &'a [u8], tag: u16) -> (Reply, &'a [u8]) {
         let reply = gz_name(house.as_ptr(), house.len(), site.as_ptr(), site.len(), tag, &mut part);
         (reply, std::slice::from_raw_parts(part.start, part.length))
     }
+}
+
+fn read(text: &[u8], house: &[u8], site: &[u8], query: &mut [u16]) -> ReadReply {
+    let (t, h, s) = (text, house, site);
+    unsafe { gz_read(t.as_ptr(), t.len(), h.as_ptr(), h.len(), s.as_ptr(), s.len(), query.as_mut_ptr(), query.len()) }
 }
 
 const WAREHOUSE: [u16; 12] = [65535, 1, 0, 2, 1, 3, 1, 3, 0, 2, 4, 3];
@@ -171,4 +190,38 @@ fn main() {
     let (reply, nothing) = name(house, site, 4);
     assert_eq!((reply, nothing.len(), nothing.as_ptr()), (refused(22, 0), 0, house.as_ptr()));
     assert_eq!(name(house, &site[..6], 0).0, refused(21, 1));
+
+    // typed queries: what is read is evaluated, and a refused text leaves the buffer as it was
+    let unread = |number, place| ReadReply { number, place, count: 0, columns: 0 };
+    let mut query = [7; 256];
+    let text = b"descendant::bay[. is $0]/child::pallet[. is $1]";
+    assert_eq!(read(text, house, site, &mut query[..28]), ReadReply { number: 0, place: 0, count: 28, columns: 2 });
+    assert_eq!((&query[..28], &query[28..]), (&PALLETS[..], &[7; 228][..]));
+    let mut cursor = Cursor { begun: 0, last: [0, 0, 9] };
+    let mut all = [7; 7];
+    assert_eq!(page(&query[..28], 2, &mut cursor, &mut all), PageReply { number: 0, place: 0, count: 3, more: false });
+    assert_eq!(all, [1, 2, 1, 3, 4, 5, 7]);
+
+    let mut query = [7; 40];
+    let text = b"child::bay[child::pallet and not(right::*)]";
+    assert_eq!(read(text, house, site, &mut query), ReadReply { number: 0, place: 0, count: 32, columns: 0 });
+    let last_bay = [0, 1, 0, 2, 0, 1, 0, 3, 8, 1, 0, 0, 0, 3, 0, 65535, 8, 3, 0, 0, 9, 4, 0, 0, 10, 2, 5, 0, 5, 0, 6, 0];
+    assert_eq!((&query[..32], &query[32..]), (&last_bay[..], &[7; 8][..]));
+    assert_eq!(check_query(&query[..32], 0), ACCEPTED);
+    assert_eq!(image(gz_forwards, &query[..32], &[], &[1, 0, 0, 0, 0, 0], &mut set), ACCEPTED);
+    assert_eq!(set, [0, 0, 0, 0, 1, 0, 7, 7]);
+
+    let before = query;
+    assert_eq!(read(b"", &house[..5], &site[..6], &mut query), unread(21, 0));
+    assert_eq!(read(b"", house, &site[..6], &mut query), unread(21, 1));
+    assert_eq!(read(b"", house, site, &mut query), unread(23, 0));
+    assert_eq!(read(&[b'('; 1025], house, site, &mut query), unread(23, 0));
+    assert_eq!(read(&[b'('; 1024], house, site, &mut query), unread(24, 1024));
+    assert_eq!(read(b"child::bay or child::shelf", house, site, &mut query), unread(24, 11));
+    assert_eq!(read(b"child::bay[child::shelf", house, site, &mut query), unread(24, 23));
+    assert_eq!(read(b"child::bay[child::shelf]", house, site, &mut query), unread(25, 18));
+    assert_eq!(read(b"child::bay", &[], &[], &mut []), unread(25, 7));
+    assert_eq!(read(&b"/.".repeat(33), house, site, &mut []), unread(26, 0));
+    assert_eq!(read(b"child::bay", house, site, &mut query[..3]), unread(20, 0));
+    assert_eq!(query, before);
 }

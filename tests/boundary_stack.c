@@ -1,7 +1,7 @@
-/* The stack that a call takes is as include/geznauri.h has it: less than 1 KiB where no query is evaluated, less than 8 KiB for a
-   query of one level, and less than 4 KiB for each further level of nesting. Calls run on a stack that was filled with a
-   pattern; how much of the pattern is gone, less what a thread takes that calls nothing, is what the call took. The tree has one
-   node: frames are of one size for all trees. */
+/* The stack that a call takes is as include/geznauri.h has it: less than 1 KiB for a check and a name, less than 4 KiB where a typed
+   query is read, less than 8 KiB for a query of one level, and less than 4 KiB for each further level of nesting. Calls run on a
+   stack that was filled with a pattern; how much of the pattern is gone, less what a thread takes that calls nothing, is what the
+   call took. The tree has one node: frames are of one size for all trees. */
 #define _GNU_SOURCE
 #include "geznauri.h"
 #include <pthread.h>
@@ -57,6 +57,21 @@ static void *evaluations(void *unused)
     return unused;
 }
 
+static uint8_t text[1024];
+static size_t text_len;
+static uint16_t reply_due;
+
+static void *reading(void *unused)
+{
+    static const uint8_t house[] = "\3bay", site[] = "\6pallet";
+    static uint16_t table[256];
+    if (gz_read(text, text_len, house, 4, site, 7, table, 256).number != reply_due) {
+        printf("another reply than %u\n", reply_due);
+        exit(1);
+    }
+    return unused;
+}
+
 static size_t taken(void *(*run)(void *))
 {
     uint8_t *stack = aligned_alloc(4096, SIZE);
@@ -96,8 +111,37 @@ static void at_most(const char *what, size_t expected)
         wrong = 1;
 }
 
+/* A text of some times a piece, a middle, and as many times the piece that closes it. */
+static void nested(const char *open, size_t times, const char *middle, const char *close, uint16_t reply)
+{
+    text_len = 0;
+    for (size_t i = 0; i < times; i++, text_len += strlen(open))
+        memcpy(text + text_len, open, strlen(open));
+    memcpy(text + text_len, middle, strlen(middle));
+    text_len += strlen(middle);
+    for (size_t i = 0; i < times; i++, text_len += strlen(close))
+        memcpy(text + text_len, close, strlen(close));
+    reply_due = reply;
+    size_t took = taken(reading) - taken(nothing);
+    printf("%zu times %s and %s, %zu bytes of text: %zu bytes\n", times, open, close, text_len, took);
+    if (took >= 4096)
+        wrong = 1;
+}
+
 int main(void)
 {
+    nested("", 0, ".", "", 0);
+    nested("/child::bay", 32, "", "", 0);
+    nested("(", 511, "..", ")", 0);
+    nested(".[", 20, ".", "]", 0);
+    nested(".[child::pallet and not(", 9, ".", ")]", 0);
+    nested(".[", 341, ".", "]", 26);
+    nested("(.[not(", 102, ".", ")])", 26);
+    nested("(/", 511, "..", "", 24);
+    nested("(.[/", 256, "", "", 24);
+    nested("child::pallet union ", 51, ".", "", 26);
+    nested("child::shelf/", 78, ".", "", 25);
+
     /* every axis, with the star and with a tag */
     for (uint16_t axis = 0; axis <= 12; axis++)
         for (uint32_t tag = 1; tag <= 65535; tag += 65534) {

@@ -1,7 +1,7 @@
 #!/usr/bin/env python3
 """The static library is built, and the programs tests/boundary*.c and tests/boundary.rs are linked with it and run: they call
 every function of include/geznauri.h, accepted and refused. The header is compiled as C++ too, on its own. What the header says of
-the archive is so: the symbols that it defines and needs, and its size."""
+the archive is so: the symbols that it defines and needs, and its size. The example program prints what examples/README.md shows."""
 import os, re, subprocess, sys
 sys.dont_write_bytecode = True
 sys.path.insert(0, os.path.join(os.path.dirname(__file__), "..", "support"))
@@ -44,6 +44,21 @@ def archive():
         yield "the archive has %d bytes of code and constants, and %d of variables" % (text, data + bss)
 
 
+def example():
+    """What examples/README.md shows of the example program and is not so."""
+    program = os.path.join(OUT, "typed")
+    if fails(*C, os.path.join("examples", "typed.c"), LIBRARY, "-o", program):
+        yield "examples/typed.c does not compile"
+        return
+    shown = re.findall(r"^    \$ target/typed '(.*)'\n((?:    [^$\n].*\n)+)", read("examples/README.md"), re.M)
+    if not shown:
+        yield "examples/README.md shows no query"
+    for query, lines in shown:
+        run = subprocess.run([os.path.join(ROOT, program), query], stdin=subprocess.DEVNULL, stdout=subprocess.PIPE)
+        if run.stdout.decode() != re.sub("^    ", "", lines, flags=re.M):
+            yield "examples/typed.c prints otherwise than examples/README.md shows for %s" % query
+
+
 problems = []
 os.makedirs(os.path.join(ROOT, OUT), exist_ok=True)
 if fails("./build"):
@@ -62,4 +77,5 @@ for source in "boundary.c", "boundary_stack.c", "boundary.rs":
 if fails("cc", "-x", "c++", "-Wall", "-Wextra", "-Werror", "-fsyntax-only", "include/geznauri.h"):
     problems.append("include/geznauri.h is no C++")
 problems += ["%s, and include/geznauri.h says otherwise" % fault for fault in archive()]
+problems += example()
 end(problems)

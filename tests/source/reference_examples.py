@@ -1,6 +1,7 @@
 #!/usr/bin/env python3
 """The examples of docs/REFERENCE.md are right by tests/support/reference.py: what stands on each axis, the job file byte for
-byte, and what the program prints for it."""
+byte, and what the program prints for it. The worked readings and refusals of typed queries are lines of tests/boundary.c, which
+holds the library to them."""
 import itertools, os, re, struct, sys
 sys.dont_write_bytecode = True
 sys.path.insert(0, os.path.join(os.path.dirname(__file__), "..", "support"))
@@ -39,4 +40,14 @@ answers = [row for row in itertools.product(range(tree.n), repeat=variables) if 
 printed = "".join("%s\n" % " ".join(map(str, row)) for row in answers) + "end %d\n" % len(answers)
 if block("Output of the program", 0).lstrip("\n") != printed:
     problems.append("for the job file the program prints\n%s" % printed)
+
+# `text` | entries | variables, and `text` | number at place
+readings = re.findall(r"^\| `([^`]+)` \| ((?:`[\d ]+`(?:, )?)+) \| (\d) \|$", text, re.M)
+unread = re.findall(r"^\| `([^`]+)` \| (\d+) at (\d+) \|", text, re.M)
+lines = ['reads("%s", TEACHING, %s, NUMBERS(%s));' % (t, v, ", ".join(re.findall(r"\d+", e))) for t, e, v in readings]
+lines += ['refuses("%s", TEACHING, 256, %s, %s);' % line for line in unread]
+tried = " ".join(read("tests/boundary.c").split())
+if not readings or not unread:
+    problems.append("the worked readings and refusals of typed queries are not found")
+problems += ["tests/boundary.c does not try %s" % line for line in lines if " ".join(line.split()) not in tried]
 end(problems)

@@ -121,7 +121,7 @@ module _ (q : List ℕ) (least columns : ℕ) (b : Passes (queryChecks q least c
         let w = guarded (eqb (kind q e) 0) (ltb 12 (left q e) || eqb (tag q e) 65534) (fields-at .0) (eq-eqb (kind q e) 0 h) in
         ltb-false 12 (left q e) (no-or (ltb 12 (left q e)) (eqb (tag q e) 65534) w .0)
 
-    variable-at : namesVariable (kind q e) ≡ true → left q e < columns
+    pub variable-at : namesVariable (kind q e) ≡ true → left q e < columns
     variable-at p = below (namesVariable (kind q e)) (left q e) columns (no-or (badVariable columns (entry q e)) (badUnnamed (entry q e)) (fields-at .1) .0) p
 
     operands : ((hasLeft (kind q e) && not (ltb (left q e) e)) ≡ false) × ((hasRight (kind q e) && not (ltb (right q e) e)) ≡ false)

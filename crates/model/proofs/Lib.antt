@@ -5,7 +5,9 @@ pub mod Refusals
 pub mod Axes
 pub mod Meaning
 pub mod QueryTable
+pub mod Encoding
 pub mod Accepted
+pub mod Made
 pub mod Answers
 pub mod Results
 pub mod Starred

@@ -103,10 +103,13 @@ Passes-front (c ∷ cs) b n h =
     let v = Passes-front cs b (yes-right (ltb 0 (c .number)) (numbered cs) n) (w .1) in
     ((w .0, v .0), v .1)
 
-pub all-pass : (cs : List Check) → Passes cs → verdict cs .number ≡ 0
+pub none-refused : (cs : List Check) → Passes cs → verdict cs ≡ reply 0 0
 unfolding verdict Passes
-all-pass [] w = refl
-all-pass (c ∷ cs) w = rw (w .0) (all-pass cs (w .1))
+none-refused [] w = refl
+none-refused (c ∷ cs) w = rw (w .0) (none-refused cs (w .1))
+
+pub all-pass : (cs : List Check) → Passes cs → verdict cs .number ≡ 0
+all-pass cs w = ap (λ (r : Reply). r .number) (none-refused cs w)
 
 -- the buffer after a call
 

@@ -9,6 +9,7 @@ pub mod Answers
 pub mod Pages
 pub mod Refusals
 pub mod Checks
+pub mod Encoding
 pub mod Services
 pub mod Warehouse
 pub mod Replies

@@ -20,6 +20,16 @@ pub struct PageReply {
     pub more: bool,
 }
 
+// The reply to the reading of a typed query: number and place, how many numbers its table has, and how many variables
+// (document 02: columns).
+#[repr(C)]
+pub struct ReadReply {
+    pub number: u16,
+    pub place: u16,
+    pub count: usize,
+    pub columns: u16,
+}
+
 // Where a caller stands in the answers of a query (document 01: the walk): whether paging has begun, 0 if not and any other
 // byte if so, and the last row given, as three node numbers. All zero is a fresh cursor.
 #[repr(C)]

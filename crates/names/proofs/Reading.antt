@@ -61,7 +61,7 @@ fits-rest (suc rest) (b ∷ bs) h = let l : rest ≤ length bs = fits-rest rest 
 
 -- names
 
-name-there : (w : Table) (t : List ℕ) (from at : ℕ) → at < length t → namesFrom w from at t ≡ part w (from + at + 1) (getD t at 0) ∷ namesFrom w from (at + 1 + getD t at 0) t
+pub name-there : (w : Table) (t : List ℕ) (from at : ℕ) → at < length t → namesFrom w from at t ≡ part w (from + at + 1) (getD t at 0) ∷ namesFrom w from (at + 1 + getD t at 0) t
 unfolding namesFrom
 name-there w [] from at l = absurd (not-suc-le-zero l)
 name-there w (b ∷ bs) from zero l = rw (start from, after-first b)
@@ -73,7 +73,7 @@ name-there w (b ∷ bs) from (suc at) l = rw (after-later at (getD bs at 0), sta
     start : (n a : ℕ) → n + suc a + 1 ≡ suc n + a + 1
     start n a = omega arith
 
-no-names : (w : Table) (t : List ℕ) (from at : ℕ) → length t ≤ at → namesFrom w from at t ≡ []
+pub no-names : (w : Table) (t : List ℕ) (from at : ℕ) → length t ≤ at → namesFrom w from at t ≡ []
 unfolding namesFrom
 no-names w [] from at l = refl
 no-names w (b ∷ bs) from zero l = absurd (not-suc-le-zero l)

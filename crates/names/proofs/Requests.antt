@@ -3,16 +3,16 @@
 use Prim.Native.Nat.{ℕ, zero, suc, _+_, _-_, _≤_, _<_}
 use native.Mathlib.Omega.{arith}
 use mathlib.Core.Path.{_≡_, refl, sym, ap, _∙_}
-use mathlib.Core.Bool.{Bool, true, false, cond}
+use mathlib.Core.Bool.{true, false, cond}
 use mathlib.Core.List.{List, [], _∷_, _++_}
 use lib.ListN.{length, take, drop, getD}
 use denote.Ref.{RefT, ptr, now}
 use lib.Dec.{ltb, eqb}
 use borrow.Author.Tests.{eqb-true, eq-eqb, ne-eqb, lt-ltb, le-ltb, ltb-true, ltb-false}
-use Rattle.model.specs.Refusals.{reply, verdict}
+use Rattle.model.specs.Refusals.{refuse, reply, verdict}
 use Rattle.model.specs.declared.Reply.{Reply}
 use Rattle.model.proofs.Booleans.{Seen, yes!, no!, seen, or-right, no-or}
-use Rattle.model.proofs.Refusals.{numbered, Passes, accepted, stop, pass, accept}
+use Rattle.model.proofs.Refusals.{numbered, Passes, accepted, stop, pass, accept, stop-all, pass-all}
 use Rattle.names.specs.declared.Table.{Table}
 use Rattle.names.specs.declared.Table.the-variants.{House, Site}
 use Rattle.names.specs.declared.Part.{Part}
@@ -21,7 +21,7 @@ use Rattle.names.specs.declared.Found.the-variants.{At, Past}
 use Rattle.names.specs.declared.Lookup.{Lookup}
 use Rattle.names.specs.declared.Lookup.the-variants.{Named, Refused}
 use Rattle.names.proofs.Reading.{fits-rest}
-use Rattle.names.specs.Names.{badLength, malformedFrom, malformed, namesFrom, names, part, nothing, byTag, unnamed, nameChecks, partFor, tableOf, replyOf, partOf, found, Decided, IsPart}
+use Rattle.names.specs.Names.{badLength, malformedFrom, namesFrom, names, part, nothing, byTag, unnamed, nameTableChecks, nameChecks, partFor, tableOf, replyOf, partOf, found, Decided, IsPart}
 
 -- a name found by its number: in the first of two lists, or past it in the second
 
@@ -51,6 +51,10 @@ found-not [] k j h = le-ltb k zero (omega arith)
 found-not (q ∷ qs) zero j h = cc
 found-not (q ∷ qs) (suc k) j h = le-ltb (suc k) (suc (length qs)) (omega (arith, ltb-false k (length qs) (found-not qs k j h)))
 
+tables-numbered : (house site : List ℕ) → numbered (nameTableChecks house site) ≡ true
+unfolding nameTableChecks numbered
+tables-numbered house site = refl
+
 module _ (house site : List ℕ) (tag : ℕ) where
   pub too-high : 65533 < tag → true ≡ unnamed house site tag
   unfolding unnamed
@@ -67,23 +71,34 @@ module _ (house site : List ℕ) (tag : ℕ) where
 
   -- the verdict where both tables are runs of names
 
-  module _ (r : Reply) (a b : Bool) where
-    pub none : r ≡ reply 22 0 → true ≡ unnamed house site tag → a ≡ malformed house → a ≡ false → b ≡ malformed site → b ≡ false → r ≡ verdict (nameChecks house site tag)
+  module _ (r s : Reply) where
+    none : r ≡ reply 22 0 → true ≡ unnamed house site tag → s ≡ verdict (nameTableChecks house site) → s .number ≡ 0 → r ≡ verdict (nameChecks house site tag)
     unfolding nameChecks
-    none z u p e q f = search (stop, pass)
+    none z u p e =
+        pass-all (nameTableChecks house site) (refuse 22 (unnamed house site tag) ∷ []) s r
+        (stop 22 [] 0 true (unnamed house site tag) r z u refl) p e (tables-numbered house site)
 
-    pub one : r ≡ reply 0 0 → false ≡ unnamed house site tag → a ≡ malformed house → a ≡ false → b ≡ malformed site → b ≡ false → r ≡ verdict (nameChecks house site tag)
+    pub one : r ≡ reply 0 0 → false ≡ unnamed house site tag → s ≡ verdict (nameTableChecks house site) → s .number ≡ 0 → r ≡ verdict (nameChecks house site tag)
     unfolding nameChecks
-    one z u p e q f = search (accept, pass)
+    one z u p e =
+        pass-all (nameTableChecks house site) (refuse 22 (unnamed house site tag) ∷ []) s r
+        (pass 22 [] 0 false (unnamed house site tag) r (accept r z) u refl) p e (tables-numbered house site)
 
   -- a refused request, and one that is accepted
 
-  pub refused : (k at : ℕ) (r : Reply) → r ≡ reply k at → (k ≡ 0 → ⊥) → r ≡ verdict (nameChecks house site tag) → Decided house site tag (Refused r)
+  refused : (r : Reply) → r ≡ verdict (nameChecks house site tag) → (r .number ≡ 0 → ⊥) → Decided house site tag (Refused r)
   unfolding partFor
-  refused k at r e z v = record {
+  refused r v z = record {
     replied = v;
-    given = rw (ne-eqb (verdict (nameChecks house site tag) .number) 0 (λ h. z (ap (λ (r : Reply). r .number) (sym e ∙ v) ∙ h)));
+    given = rw (ne-eqb (verdict (nameChecks house site tag) .number) 0 (λ h. z (ap (λ (r : Reply). r .number) v ∙ h)));
   }
+
+  pub refused-21 : (r : Reply) → r ≡ verdict (nameTableChecks house site) → (r .number ≡ 0 → ⊥) → Decided house site tag (Refused r)
+  unfolding nameChecks
+  refused-21 r v z = refused r (stop-all (nameTableChecks house site) (refuse 22 (unnamed house site tag) ∷ []) r v z) z
+
+  pub refused-22 : (r s : Reply) → r ≡ reply 22 0 → true ≡ unnamed house site tag → s ≡ verdict (nameTableChecks house site) → s .number ≡ 0 → Decided house site tag (Refused r)
+  refused-22 r s z u p e = refused r (none r s z u p e) (λ h. let k : 22 ≡ 0 = sym (ap (λ (r : Reply). r .number) z) ∙ h in omega arith)
 
   pub named : (t : ℕ) (p : Part) (f : Found) → reply 0 0 ≡ verdict (nameChecks house site tag) → f ≡ found (byTag house site) t → f ≡ At p → t ≡ tag → Decided house site tag (Named p)
   unfolding partFor
@@ -116,7 +131,7 @@ abbrev Inside : List ℕ → List ℕ → Part → Type 0
 Inside house site p = p .start + p .len ≤ length (tableOf (p .table) house site)
 
 inside : (house site : List ℕ) (tag : ℕ) → Inside house site (partFor house site tag)
-unfolding partFor nameChecks numbered Passes
+unfolding partFor nameChecks nameTableChecks numbered Passes
 inside house site tag = go (seen (eqb (verdict (nameChecks house site tag) .number) 0))
   where
     go : Seen (eqb (verdict (nameChecks house site tag) .number) 0)

@@ -11,8 +11,7 @@ use lib.Seq.{take-at, drop-at, drop-nil, length-take-le}
 use borrow.Author.Tests.{not-true}
 use Rattle.model.proofs.Booleans.{yes-left, yes-right, both-yes, no-or}
 use Rattle.names.specs.declared.Table.{Table}
-use Rattle.names.specs.declared.Part.{Part}
-use Rattle.names.specs.Names.{badLength, malformedFrom, malformed, namesFrom, names}
+use Rattle.names.specs.Names.{badLength, malformedFrom, malformed, namesFrom, names, bytes}
 use Rattle.names.proofs.Reading.{fits-rest}
 
 -- a run of names, each behind its length byte
@@ -24,10 +23,6 @@ run (w ∷ ws) = length w ∷ (w ++ run ws)
 pub sized : List (List ℕ) → Bool
 sized [] = true
 sized (w ∷ ws) = not (badLength (length w)) && sized ws
-
--- the bytes of a part
-pub bytes : List ℕ → Part → List ℕ
-bytes t p = take (p .len) (drop (p .start) t)
 
 pass-name : (w t : List ℕ) → malformedFrom (length w) (w ++ t) ≡ malformed t
 unfolding malformedFrom
@@ -66,7 +61,7 @@ past-name k from (b ∷ bs) t = past-name k (suc from) bs t ∙ ap (λ (n : ℕ)
     over a l = omega arith
 
 names-behind : (k : Table) (a : List ℕ) (ws : List (List ℕ)) → map (bytes (a ++ run ws)) (namesFrom k (length a) 0 (run ws)) ≡ ws
-unfolding namesFrom run bytes
+unfolding namesFrom run
 names-behind k a [] = refl
 names-behind k a (w ∷ ws) =
     let l : suc (length a) + length w ≡ length (a ++ (length w ∷ w)) = rw (length-append a (length w ∷ w)) (omega arith) in

@@ -55,13 +55,16 @@ byTag house site = names House house ++ names Site site
 unfoldable pub unnamed : List ℕ → List ℕ → ℕ → Bool
 unnamed house site tag = ltb 65533 tag || not (ltb tag (length (byTag house site)))
 
--- a name request: 21 and 22
-unfoldable pub nameChecks : List ℕ → List ℕ → ℕ → List Check
-nameChecks house site tag =
+-- the two tables: 21
+unfoldable pub nameTableChecks : List ℕ → List ℕ → List Check
+nameTableChecks house site =
     refuseHere 21 0 (malformed house)
     ∷ refuseHere 21 1 (malformed site)
-    ∷ refuse 22 (unnamed house site tag)
     ∷ []
+
+-- a name request: 21 and 22
+unfoldable pub nameChecks : List ℕ → List ℕ → ℕ → List Check
+nameChecks house site tag = nameTableChecks house site ++ (refuse 22 (unnamed house site tag) ∷ [])
 
 -- what a refused request is given: the empty part at the start of the house's table
 abbrev pub nothing : Part
@@ -76,6 +79,10 @@ partFor house site tag =
 abbrev pub tableOf : {X : Type 0} → Table → X → X → X
 tableOf House house site = house
 tableOf Site house site = site
+
+-- the bytes of a part of a table
+abbrev pub bytes : List ℕ → Part → List ℕ
+bytes table p = take (p .len) (drop (p .start) table)
 
 -- the slice r is a part of the house's or the site's slice: it points to the part's first byte there, and holds the part's bytes
 pub record IsPart (house site r : RefT (List ℕ)) (p : Part) : Type 0 where

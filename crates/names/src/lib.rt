@@ -1,9 +1,11 @@
-// Tag names: the check of a name request, and the name as a part of the table that holds it.
+// Tag names: the check of a name request, the name as a part of the table that holds it, and the tag of a name.
 // Each call reads a table's length bytes at most twice, so the time is linear in the tables' lengths.
 ghost use mathlib.Core.Path.{_≡_};
-ghost use Prim.Native.Nat.{_<_};
+ghost use Prim.Native.Nat.{_≤_, _<_};
+ghost use lib.ListN.{length, take, drop};
 ghost use Rattle.model.specs.Refusals.{verdict};
-ghost use Rattle.names.specs.Names.{malformed, names, byTag, nameChecks, partFor, IsPart, found, Decided};
+ghost use Rattle.names.specs.Names.{malformed, names, byTag, nameTableChecks, nameChecks, partFor, IsPart, found, Decided};
+ghost use Rattle.names.specs.Tags.{equal, spellings, hitFrom, tagOf};
 
 // The two name tables that are lent (document 01: the house's and the site's vocabulary).
 pub enum Table {
@@ -30,6 +32,20 @@ pub enum Found {
 pub enum Lookup {
     Named(Part),
     Refused(model::Reply),
+}
+
+// What a search for a name by its bytes finds.
+pub enum Hit {
+    // The number of the first name that has them.
+    Number(usize),
+    // There is none: so many names are counted by then.
+    Passed(usize),
+}
+
+// The tag of a name.
+pub enum Tag {
+    Known(u16),
+    Unknown,
 }
 
 // A length byte as a number.
@@ -85,15 +101,26 @@ fn find(house: &[u8], site: &[u8], tag: usize) -> Found
     }
 }
 
+// Number and place of the two tables: 21 at 0 or 1 for a malformed one.
+pub fn check_tables(house: &[u8], site: &[u8]) -> model::Reply
+    ensures { λ r. ⌜ r ≡ verdict (nameTableChecks (now (house .entry)) (now (site .entry))) ⌝ }
+{
+    if is_malformed(house) {
+        return model::reply_at(21, 0);
+    }
+    if is_malformed(site) {
+        return model::reply_at(21, 1);
+    }
+    model::reply_at(0, 0)
+}
+
 // The request, decided: refusals 21 and 22, or the name.
 fn look_up(house: &[u8], site: &[u8], tag: u16) -> Lookup
     ensures { λ r. ⌜ Decided (now (house .entry)) (now (site .entry)) tag r ⌝ }
 {
-    if is_malformed(house) {
-        return Lookup::Refused(model::reply_at(21, 0));
-    }
-    if is_malformed(site) {
-        return Lookup::Refused(model::reply_at(21, 1));
+    let tables = check_tables(house, site);
+    if tables.number != 0 {
+        return Lookup::Refused(tables);
     }
     if 65533 < tag {
         return Lookup::Refused(model::reply_at(22, 0));
@@ -128,5 +155,68 @@ pub fn name<'a>(house: &'a [u8], site: &'a [u8], tag: u16) -> &'a [u8]
     match table {
         Table::House => &house[start..end],
         Table::Site => &site[start..end],
+    }
+}
+
+// Whether two slices hold the same bytes: the lengths first, then byte for byte.
+fn same(a: &[u8], b: &[u8]) -> bool
+    ensures { λ r. ⌜ r ≡ equal (now (a .entry)) (now (b .entry)) ⌝ }
+{
+    if a.len() != b.len() {
+        return false;
+    }
+    let mut i = 0;
+    while i < a.len() {
+        if a[i] != b[i] {
+            return false;
+        }
+        i = i + 1;
+    }
+    true
+}
+
+// Whether the name of `len` bytes at `start` of a table is this one. One that runs past the table's end has the bytes up to it.
+fn is_name(table: &[u8], start: usize, len: usize, name: &[u8]) -> bool
+    requires { ⌜ start ≤ length (now table) ⌝ }
+    ensures { λ r. ⌜ r ≡ equal (take len (drop start (now (table .entry)))) (now (name .entry)) ⌝ }
+{
+    let left = table.len() - start;
+    if left < len {
+        return same(&table[start..], name);
+    }
+    let end = start + len;
+    same(&table[start..end], name)
+}
+
+// The first name of a table that has these bytes, by its number, counted from `from`. One look at each name up to tag 65533.
+fn spot(table: &[u8], name: &[u8], from: usize) -> Hit
+    ensures { λ r. ⌜ r ≡ hitFrom from (now (name .entry)) (spellings (now (table .entry))) ⌝ }
+{
+    let mut at = 0;
+    let mut number = from;
+    while at < table.len() {
+        if 65533 < number {
+            return Hit::Passed(number);
+        }
+        let len = wide(table[at]);
+        if is_name(table, at + 1, len, name) {
+            return Hit::Number(number);
+        }
+        number = number + 1;
+        at = at + 1 + len;
+    }
+    Hit::Passed(number)
+}
+
+// The lowest tag of a name: through the house's names first, then the site's. One look through the two tables for each name.
+pub fn tag_of(house: &[u8], site: &[u8], name: &[u8]) -> Tag
+    ensures { λ r. ⌜ r ≡ tagOf (now (house .entry)) (now (site .entry)) (now (name .entry)) ⌝ }
+{
+    match spot(house, name, 0) {
+        Hit::Number(k) => Tag::Known(k as u16),
+        Hit::Passed(k) => match spot(site, name, k) {
+            Hit::Number(j) => Tag::Known(j as u16),
+            Hit::Passed(_) => Tag::Unknown,
+        },
     }
 }

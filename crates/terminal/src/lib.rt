@@ -7,6 +7,7 @@ ghost use Rattle.model.specs.Checks.{treeChecks, queryChecks};
 ghost use Rattle.model.specs.Services.{ImageLeaves, PairsLeave};
 ghost use Rattle.model.specs.Services.{pageOutcome, PageLeaves};
 ghost use Rattle.names.specs.Names.{nameChecks, partFor, IsPart};
+ghost use Rattle.reader.specs.Read.{ReadLeaves};
 
 // The check of a tree table.
 #[no_mangle]
@@ -117,4 +118,21 @@ pub extern "C" fn gz_name<'a>(
 {
     *name = names::name(house, site, tag);
     names::check_name(house, site, tag)
+}
+
+// A typed query, read into a query table at the front of the buffer.
+#[no_mangle]
+pub extern "C" fn gz_read(
+    text: &[u8],
+    house: &[u8],
+    site: &[u8],
+    query: &mut [u16],
+) -> model::ReadReply
+    ensures { λ r.
+        ⌜
+        ReadLeaves (now (text .entry)) (now (house .entry)) (now (site .entry)) (now (query .entry))
+        r (now (query .exit))
+        ⌝ }
+{
+    reader::read(text, house, site, query)
 }

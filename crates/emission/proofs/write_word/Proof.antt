@@ -1,0 +1,65 @@
+use Rattle.emission.proofs.Writing.{word-want, word-have, word-letter, word-star}
+use borrow.Author.Needs.{needs}
+use Rattle.emission.proofs.write_word.Statement.{statement}
+use Rattle.emission.proofs.write_word.Tie as tie
+
+innermost-requires : tie.Need-innermost-requires
+innermost-requires c κs = search needs
+
+put-want-requires : tie.Need-put-want-requires
+put-want-requires c κs = search needs
+
+same-length : tie.Need-same-length
+same-length c = search needs
+
+same-length-2 : tie.Need-same-length-2
+same-length-2 c = search needs
+
+returns : tie.Need-returns
+returns c = search (word-want, needs)
+
+put-have-requires : tie.Need-put-have-requires
+put-have-requires c κs = search needs
+
+same-length-3 : tie.Need-same-length-3
+same-length-3 c = search needs
+
+same-length-4 : tie.Need-same-length-4
+same-length-4 c = search needs
+
+returns-2 : tie.Need-returns-2
+returns-2 c = search (word-have, needs)
+
+returns-3 : tie.Need-returns-3
+returns-3 c = search (word-letter, needs)
+
+put-star-requires : tie.Need-put-star-requires
+put-star-requires c κs = search needs
+
+same-length-5 : tie.Need-same-length-5
+same-length-5 c = search needs
+
+same-length-6 : tie.Need-same-length-6
+same-length-6 c = search needs
+
+returns-4 : tie.Need-returns-4
+returns-4 c = search (word-star, needs)
+
+pub write-word-spec : {M : Type 1} → statement M
+write-word-spec =
+    tie.close
+    (tie.spec
+    innermost-requires
+    put-want-requires
+    same-length
+    same-length-2
+    returns
+    put-have-requires
+    same-length-3
+    same-length-4
+    returns-2
+    returns-3
+    put-star-requires
+    same-length-5
+    same-length-6
+    returns-4)

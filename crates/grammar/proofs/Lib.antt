@@ -1,0 +1,10 @@
+pub mod Online
+pub mod Reading
+pub mod Soundness
+pub mod Theorems
+pub mod Choices
+pub mod NameBytes
+pub mod Accepted
+pub mod Examples
+pub mod Names
+pub mod Typed

@@ -1,0 +1,4 @@
+pub mod Grammar
+pub mod Online
+pub mod Automaton
+pub mod Typed

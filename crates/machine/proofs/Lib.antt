@@ -1,0 +1,4 @@
+pub mod Finding
+pub mod Loop
+pub mod Machine
+pub mod Steps

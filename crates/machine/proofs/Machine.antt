@@ -1,0 +1,714 @@
+-- The machine of focus and stack goes as the reading does.
+use Prim.Native.Nat.{ℕ, zero, suc, _+_, _≤_, _<_, max}
+use native.Mathlib.Omega.{arith}
+use mathlib.Core.Path.{_≡_, refl, sym, ap, _∙_, subst}
+use mathlib.Core.Logic._⊎_.{inl, inr}
+use mathlib.Core.Bool.{Bool, true, false, not, _&&_, _||_, cond}
+use mathlib.Core.List.{List, [], _∷_, _++_, map}
+use lib.ListN.{length, take, drop, getD, length-take}
+use lib.Dec.{leb, ltb, eqb}
+use borrow.Author.Tests.{eqb-true, ltb-true, ltb-false}
+use Rattle.model.proofs.Booleans.{no-yes, yes-left, yes-right}
+use Rattle.words.specs.declared.Scan.{Scan}
+use Rattle.words.specs.declared.Scan.the-variants.{Word, Stop}
+use Rattle.machine.specs.declared.Move.{Move}
+use Rattle.words.specs.Words.{common, slot, greater, scanFrom, allWords, wordTable}
+use Rattle.grammar.specs.Grammar.{Expr, Op, Slash, ascii, elem, axes, axisWord, variables, nameBytes, level, logical}
+use Rattle.grammar.specs.Grammar.Slash.{one, two}
+use Rattle.grammar.specs.Grammar.Op.{or, and, union, intersect, except, slash}
+use Rattle.grammar.specs.Grammar.Expr.{star, named, dot, dots, variable, bracket, negate, is, filter, rooted, join}
+use Rattle.grammar.specs.Online.{Choice, Place, run, reach}
+use Rattle.grammar.specs.Online.Choice.{choice}
+use Rattle.grammar.specs.Online.Place.{between}
+use Rattle.grammar.specs.Automaton.{Frame, Focus, State, takesTest, opened, closed, isPath, isDot, isNamed, maySlash, slashed, mayFilter, filtered, mayParen, parenthesised, mayJoin, joined, each, nameChoice, longer, longerChoice, behind, next}
+use Rattle.grammar.specs.Automaton.Frame.{left, lead, paren, negation, test}
+use Rattle.grammar.specs.Automaton.Focus.{want, axis, have}
+use Rattle.grammar.specs.Automaton.State.{state}
+use Rattle.machine.specs.Machine.{opCode, isSlash, codesIn, codes, focusCode, top, takes, slashes, binds, pops, sort, mv, pushed, moved, wantMay, slashMove, wantMove, haveMay, haveMove, ofScan, haveTurn, turnOf}
+use Rattle.machine.specs.declared.Turn.{Turn}
+use Rattle.machine.specs.declared.Turn.the-variants.{Go, Halt}
+use Rattle.grammar.proofs.Online.{Offers, isCons, offered-cons}
+use Rattle.grammar.proofs.Choices.{Nth, Taken}
+use Rattle.grammar.proofs.Reading.{filled, token, Reads, each-skip, each-at}
+use Rattle.machine.proofs.Finding.{hits, most, isBetween, greater-zero, stops}
+
+-- the codes tell what the gaps do
+
+takes-either : (b : Bool) → takes (cond b 10 9) ≡ b
+takes-either true = refl
+takes-either false = refl
+
+pub takes-top : (fs : List Frame) → takes (top (codes fs)) ≡ takesTest fs
+unfolding codesIn
+takes-top [] = refl
+takes-top (left l or ∷ fs) = refl
+takes-top (left l and ∷ fs) = refl
+takes-top (left l union ∷ fs) = refl
+takes-top (left l intersect ∷ fs) = refl
+takes-top (left l except ∷ fs) = refl
+takes-top (left l (slash one) ∷ fs) = refl
+takes-top (left l (slash two) ∷ fs) = refl
+takes-top (lead one ∷ fs) = refl
+takes-top (lead two ∷ fs) = refl
+takes-top (paren ∷ fs) = takes-either (takesTest fs)
+takes-top (negation ∷ fs) = refl
+takes-top (test e ∷ fs) = refl
+
+slashes-either : (b : Bool) → slashes (cond b 10 9) ≡ true
+slashes-either true = refl
+slashes-either false = refl
+
+slashes-top : (fs : List Frame) → slashes (top (codes fs)) ≡ maySlash fs
+unfolding codesIn
+slashes-top [] = refl
+slashes-top (left l or ∷ fs) = refl
+slashes-top (left l and ∷ fs) = refl
+slashes-top (left l union ∷ fs) = refl
+slashes-top (left l intersect ∷ fs) = refl
+slashes-top (left l except ∷ fs) = refl
+slashes-top (left l (slash one) ∷ fs) = refl
+slashes-top (left l (slash two) ∷ fs) = refl
+slashes-top (lead one ∷ fs) = refl
+slashes-top (lead two ∷ fs) = refl
+slashes-top (paren ∷ fs) = slashes-either (takesTest fs)
+slashes-top (negation ∷ fs) = refl
+slashes-top (test e ∷ fs) = refl
+
+slash-either : (b : Bool) (ks : List ℕ) → moved (slashMove (cond b 10 9)) (cond b 10 9 ∷ ks) ≡ 7 ∷ cond b 10 9 ∷ ks
+slash-either true ks = refl
+slash-either false ks = refl
+
+slash-codes : (fs : List Frame) → maySlash fs ≡ true → codes (slashed fs) ≡ moved (slashMove (top (codes fs))) (codes fs)
+unfolding codesIn
+slash-codes [] h = refl
+slash-codes (left l or ∷ fs) h = refl
+slash-codes (left l and ∷ fs) h = refl
+slash-codes (left l union ∷ fs) h = refl
+slash-codes (left l intersect ∷ fs) h = refl
+slash-codes (left l except ∷ fs) h = refl
+slash-codes (left l (slash one) ∷ fs) h = refl
+slash-codes (left l (slash two) ∷ fs) h = no-yes refl h
+slash-codes (lead one ∷ fs) h = refl
+slash-codes (lead two ∷ fs) h = no-yes refl h
+slash-codes (paren ∷ fs) h = sym (slash-either (takesTest fs) (codes fs))
+slash-codes (negation ∷ fs) h = refl
+slash-codes (test e ∷ fs) h = refl
+
+slash-focus : (t : ℕ) → slashMove t .focus ≡ 0
+slash-focus t = go (eqb t 5) (eqb t 7)
+  where
+    go : (a b : Bool) → cond a (mv 0 1 6) (cond b (mv 0 0 8) (mv 0 0 7)) .focus ≡ 0
+    go true b = refl
+    go false true = refl
+    go false false = refl
+
+filter-top : (fs : List Frame) → eqb (top (codes fs)) 12 ≡ mayFilter fs
+unfolding codesIn
+filter-top [] = refl
+filter-top (left l or ∷ fs) = refl
+filter-top (left l and ∷ fs) = refl
+filter-top (left l union ∷ fs) = refl
+filter-top (left l intersect ∷ fs) = refl
+filter-top (left l except ∷ fs) = refl
+filter-top (left l (slash one) ∷ fs) = refl
+filter-top (left l (slash two) ∷ fs) = refl
+filter-top (lead one ∷ fs) = refl
+filter-top (lead two ∷ fs) = refl
+filter-top (paren ∷ fs) = go (takesTest fs)
+  where
+    go : (b : Bool) → eqb (cond b 10 9) 12 ≡ false
+    go true = refl
+    go false = refl
+filter-top (negation ∷ fs) = refl
+filter-top (test e ∷ fs) = refl
+
+paren-top : (fs : List Frame) → (ltb 8 (top (codes fs)) && ltb (top (codes fs)) 12) ≡ mayParen fs
+unfolding codesIn
+paren-top [] = refl
+paren-top (left l or ∷ fs) = refl
+paren-top (left l and ∷ fs) = refl
+paren-top (left l union ∷ fs) = refl
+paren-top (left l intersect ∷ fs) = refl
+paren-top (left l except ∷ fs) = refl
+paren-top (left l (slash one) ∷ fs) = refl
+paren-top (left l (slash two) ∷ fs) = refl
+paren-top (lead one ∷ fs) = refl
+paren-top (lead two ∷ fs) = refl
+paren-top (paren ∷ fs) = go (takesTest fs)
+  where
+    go : (b : Bool) → (ltb 8 (cond b 10 9) && ltb (cond b 10 9) 12) ≡ true
+    go true = refl
+    go false = refl
+paren-top (negation ∷ fs) = refl
+paren-top (test e ∷ fs) = refl
+
+-- closing gaps
+
+pub binds-op : (n : ℕ) (o : Op) → binds n (opCode o) ≡ leb n (level o)
+binds-op n or = refl
+binds-op n and = refl
+binds-op n union = refl
+binds-op n intersect = refl
+binds-op n except = refl
+binds-op n (slash one) = refl
+binds-op n (slash two) = refl
+
+pub sort-op : (o : Op) → not (ltb (opCode o) 2) ≡ not (logical o)
+sort-op or = refl
+sort-op and = refl
+sort-op union = refl
+sort-op intersect = refl
+sort-op except = refl
+sort-op (slash one) = refl
+sort-op (slash two) = refl
+
+pub binds-either : (n : ℕ) (b : Bool) → binds n (cond b 10 9) ≡ false
+binds-either n true = refl
+binds-either n false = refl
+
+-- one gap on the stack: k its code, t whether it closes
+popped : (t : Bool) (n k : ℕ) (ks : List ℕ) (g : Bool) (fs gs : List Frame) → binds n k ≡ t → (t ≡ false → codesIn g gs ≡ k ∷ ks) → codesIn g (opened n fs) ≡ drop (pops n ks) ks
+    → codesIn g (cond t (opened n fs) gs) ≡ drop (pops n (k ∷ ks)) (k ∷ ks)
+unfolding pops
+popped true n k ks g fs gs e same ih = rw e ih
+popped false n k ks g fs gs e same ih = rw e (same refl)
+
+-- the gaps of steps close before a slash, and then a leading '//' stands under a step; the others close with it
+pub opened-codes : (fs : List Frame) (n : ℕ) (g h : Bool) → leb n 5 ≡ true → (leb n 4 || g) ≡ true → codesIn g (opened n fs) ≡ drop (pops n (codesIn h fs)) (codesIn h fs)
+unfolding codesIn opened
+opened-codes [] n g h l m = unfold pops in refl
+opened-codes (left x o ∷ fs) n g h l m =
+    popped (leb n (level o)) n (opCode o) (codesIn (isSlash o) fs) g fs (left x o ∷ fs) (binds-op n o) (λ _. refl) (opened-codes fs n g (isSlash o) l m)
+opened-codes (lead one ∷ fs) n g h l m = popped (leb n 4) n 7 (codesIn false fs) g fs (lead one ∷ fs) refl (λ _. refl) (opened-codes fs n g false l m)
+opened-codes (lead two ∷ fs) n g h l m = go h (popped (leb n 4) n 7 (codesIn false fs) g fs (lead two ∷ fs) refl single (opened-codes fs n g false l m))
+  where
+    -- where the gap 7 stays, the flag is set
+    single : leb n 4 ≡ false → codesIn g (lead two ∷ fs) ≡ 7 ∷ codesIn false fs
+    single e = let z : g ≡ true = ap (λ (b : Bool). b || g) (sym e) ∙ m in rw z
+
+    go : (h : Bool) → codesIn g (opened n (lead two ∷ fs)) ≡ drop (pops n (7 ∷ codesIn false fs)) (7 ∷ codesIn false fs)
+        → codesIn g (opened n (lead two ∷ fs)) ≡ drop (pops n (codesIn h (lead two ∷ fs))) (codesIn h (lead two ∷ fs))
+    go true once = once
+    go false once = unfold pops in rw l once
+opened-codes (paren ∷ fs) n g h l m = popped false n (cond (takesTest fs) 10 9) (codesIn false fs) g fs (paren ∷ fs) (binds-either n (takesTest fs)) (λ _. refl) (opened-codes fs n g false l m)
+opened-codes (negation ∷ fs) n g h l m = popped false n 11 (codesIn false fs) g fs (negation ∷ fs) refl (λ _. refl) (opened-codes fs n g false l m)
+opened-codes (test e ∷ fs) n g h l m = popped false n 12 (codesIn false fs) g fs (test e ∷ fs) refl (λ _. refl) (opened-codes fs n g false l m)
+
+pub closed-sort : (fs : List Frame) (h : Bool) (n : ℕ) (e : Expr) → leb n 5 ≡ true → leb n 4 ≡ true → isPath (closed n fs e) ≡ sort n (codesIn h fs) (isPath e)
+unfolding codesIn closed sort
+closed-sort [] h n e l m = refl
+closed-sort (left x o ∷ fs) h n e l m =
+    go (leb n (level o)) (binds n (opCode o)) (binds-op n o) (closed-sort fs (isSlash o) n (join o x e) l m ∙ unfold isPath in ap (sort n (codesIn (isSlash o) fs)) (sym (sort-op o)))
+  where
+    go : (t u : Bool) → u ≡ t → isPath (closed n fs (join o x e)) ≡ sort n (codesIn (isSlash o) fs) (not (ltb (opCode o) 2))
+        → isPath (cond t (closed n fs (join o x e)) e) ≡ cond u (sort n (codesIn (isSlash o) fs) (not (ltb (opCode o) 2))) (isPath e)
+    go true true p ih = ih
+    go true false p ih = no-yes refl p
+    go false true p ih = no-yes p refl
+    go false false p ih = refl
+closed-sort (lead one ∷ fs) h n e l m = rw m (closed-sort fs false n (rooted one e) l m ∙ unfold isPath in refl)
+closed-sort (lead two ∷ fs) h n e l m = go h (closed-sort fs false n (rooted two e) l m ∙ unfold isPath in refl)
+  where
+    go : (h : Bool) → isPath (closed n fs (rooted two e)) ≡ sort n (codesIn false fs) true → isPath (closed n (lead two ∷ fs) e) ≡ sort n (codesIn h (lead two ∷ fs)) (isPath e)
+    go true ih = rw m ih
+    go false ih = rw (l, m) ih
+closed-sort (paren ∷ fs) h n e l m = rw (binds-either n (takesTest fs))
+closed-sort (negation ∷ fs) h n e l m = refl
+closed-sort (test x ∷ fs) h n e l m = refl
+
+-- the focus tells what stands in the innermost gap
+
+four-five : (b : Bool) → (eqb (cond b 4 5) 2 ≡ false) × (eqb (cond b 4 5) 3 ≡ false) × (ltb (cond b 4 5) 5 ≡ b)
+four-five true = (refl, refl, refl)
+four-five false = (refl, refl, refl)
+
+pub focus-named : (e : Expr) → eqb (focusCode (have e)) 2 ≡ isNamed e
+unfolding focusCode isPath
+focus-named (star a) = refl
+focus-named (named a name) = refl
+focus-named dot = refl
+focus-named dots = refl
+focus-named (variable k) = refl
+focus-named (bracket e) = four-five (isPath e) .0
+focus-named (negate e) = refl
+focus-named (is k) = refl
+focus-named (filter e t) = refl
+focus-named (rooted s e) = refl
+focus-named (join o l r) = four-five (not (logical o)) .0
+
+pub focus-dot : (e : Expr) → eqb (focusCode (have e)) 3 ≡ isDot e
+unfolding focusCode isPath
+focus-dot (star a) = refl
+focus-dot (named a name) = refl
+focus-dot dot = refl
+focus-dot dots = refl
+focus-dot (variable k) = refl
+focus-dot (bracket e) = four-five (isPath e) .1
+focus-dot (negate e) = refl
+focus-dot (is k) = refl
+focus-dot (filter e t) = refl
+focus-dot (rooted s e) = refl
+focus-dot (join o l r) = four-five (not (logical o)) .1
+
+pub focus-path : (e : Expr) → ltb (focusCode (have e)) 5 ≡ isPath e
+unfolding focusCode isPath
+focus-path (star a) = refl
+focus-path (named a name) = refl
+focus-path dot = refl
+focus-path dots = refl
+focus-path (variable k) = refl
+focus-path (bracket e) = four-five (isPath e) .2
+focus-path (negate e) = refl
+focus-path (is k) = refl
+focus-path (filter e t) = refl
+focus-path (rooted s e) = refl
+focus-path (join o l r) = four-five (not (logical o)) .2
+
+-- a search in a table of words that are those of the choices
+
+greater-is : (a b : ℕ) → greater a b ≡ max a b
+greater-is a b = go (ltb a b) refl
+  where
+    go : (t : Bool) → ltb a b ≡ t → cond t b a ≡ max a b
+    go true p = let q : a < b = ltb-true a b p in omega arith
+    go false p = let q : b ≤ a = ltb-false a b p in omega arith
+
+greater-assoc : (a b c : ℕ) → greater (greater a b) c ≡ greater a (greater b c)
+greater-assoc a b c = rw (greater-is (greater a b) c, greater-is a b, greater-is a (greater b c), greater-is b c) (omega arith)
+
+-- what is added by a word that may not come is nothing
+raised-greater : (m : Bool) (best c r : ℕ) → greater (cond m (greater best c) best) r ≡ greater best (greater (cond m c 0) r)
+raised-greater true best c r = greater-assoc best c r
+raised-greater false best c r = rw (greater-zero r)
+
+-- the state x is what the step m makes of the gaps ks
+abbrev pub Erases : Move → List ℕ → State → Type 0
+Erases m ks (state gs f) = (codes gs ≡ moved m ks) × (focusCode f ≡ m .focus)
+
+-- the choices are the words from k on, with their flags and steps
+data Matches (words : List ℕ) (may : List Bool) (move : ℕ → Move) (ks : List ℕ) : ℕ → List (Choice State) → Type 0 where
+  none : {k : ℕ} → Matches words may move ks k []
+  row : {k : ℕ} {m : Bool} {w : List ℕ} {x : State} {l : List (Choice State)} → getD may k false ≡ m → slot words k ≡ w → (m ≡ true → Erases (move k) ks x)
+      → Matches words may move ks (suc k) l → Matches words may move ks k (choice m w x ∷ l)
+
+module _ (words : List ℕ) (may : List Bool) (move : ℕ → Move) (ks : List ℕ) where
+  module _ (t : List ℕ) where
+    record Found (k : ℕ) (l : List (Choice State)) (j : ℕ) : Type 0 where
+      found : List ℕ
+      to : State
+      offered : Offers l found to
+      nth : (i : ℕ) × (j ≡ k + i) × Nth l i to
+      stands : common found t ≡ length found
+      slotted : slot words j ≡ found
+      erases : Erases (move j) ks to
+
+    later : (a : Choice State) (l : List (Choice State)) (k j : ℕ) → Found (suc k) l j → Found k (a ∷ l) j
+    later (choice m w x) l k j f =
+        record {
+          found = f .found;
+          to = f .to;
+          offered = inr (f .offered);
+          nth = let (i, e, n) = f .nth in (suc i, omega arith, inr (i, refl, n));
+          stands = f .stands;
+          slotted = f .slotted;
+          erases = f .erases;
+        }
+
+    scan-found : (l : List (Choice State)) (k best j : ℕ) → Matches words may move ks k l → scanFrom words may t k (length l) best ≡ Word j → Found k l j
+    unfolding scanFrom
+    scan-found [] k best j none e = let z : _≡_ {A = ℕ} 0 1 = cc in absurd (omega arith)
+    scan-found (choice m w x ∷ l) k best j (row fl sl er h) e =
+        go (getD may k false && eqb (common (slot words k) t) (length (slot words k))) refl e (λ p. scan-found l (suc k) _ j h p)
+      where
+        go : (b : Bool) → (getD may k false && eqb (common (slot words k) t) (length (slot words k))) ≡ b
+            → cond b (Word k) (scanFrom words may t (suc k) (length l) (cond (getD may k false) (greater best (common (slot words k) t)) best)) ≡ Word j
+            → (scanFrom words may t (suc k) (length l) (cond (getD may k false) (greater best (common (slot words k) t)) best) ≡ Word j → Found (suc k) l j)
+            → Found k (choice m w x ∷ l) j
+        go true q p ih =
+            let i : k ≡ j = cc in
+            let n : m ≡ true = sym fl ∙ yes-left (getD may k false) (eqb (common (slot words k) t) (length (slot words k))) q in
+            let c : common (slot words k) t ≡ length (slot words k) = eqb-true (common (slot words k) t) (length (slot words k)) (yes-right (getD may k false) (eqb (common (slot words k) t) (length (slot words k))) q) in
+            record {
+              found = w;
+              to = x;
+              offered = inl (n, refl, refl);
+              nth = (0, omega arith, inl (refl, n, refl));
+              stands = subst (λ (v : List ℕ). common v t ≡ length v) sl c;
+              slotted = subst (λ (y : ℕ). slot words y ≡ w) i sl;
+              erases = subst (λ (y : ℕ). Erases (move y) ks x) i (er n);
+            }
+        go false q p ih = later (choice m w x) l k j (ih p)
+
+    scan-stop : (l : List (Choice State)) (k best p : ℕ) → Matches words may move ks k l → scanFrom words may t k (length l) best ≡ Stop p
+        → (hits l t ≡ false) × (p ≡ greater best (most l t))
+    unfolding scanFrom hits most
+    scan-stop [] k best p none e = (refl, (let q : best ≡ p = cc in sym q) ∙ sym (greater-is best 0 ∙ omega arith))
+    scan-stop (choice m w x ∷ l) k best p (row fl sl er h) e =
+        go (getD may k false && eqb (common (slot words k) t) (length (slot words k))) refl e (λ q. scan-stop l (suc k) _ p h q)
+      where
+        go : (b : Bool) → (getD may k false && eqb (common (slot words k) t) (length (slot words k))) ≡ b
+            → cond b (Word k) (scanFrom words may t (suc k) (length l) (cond (getD may k false) (greater best (common (slot words k) t)) best)) ≡ Stop p
+            → (scanFrom words may t (suc k) (length l) (cond (getD may k false) (greater best (common (slot words k) t)) best) ≡ Stop p
+            → (hits l t ≡ false) × (p ≡ greater (cond (getD may k false) (greater best (common (slot words k) t)) best) (most l t)))
+            → (((m && eqb (common w t) (length w)) || hits l t) ≡ false) × (p ≡ greater best (greater (cond m (common w t) 0) (most l t)))
+        go true q r ih = let z : _≡_ {A = ℕ} 0 1 = cc in absurd (omega arith)
+        go false q r ih =
+            let i = ih r in
+            let n : (m && eqb (common w t) (length w)) ≡ false = shape (getD may k false) (slot words k) fl sl q in
+            (rw n (i .0), i .1 ∙ shape′ (getD may k false) (slot words k) fl sl ∙ raised-greater m best (common w t) (most l t))
+          where
+            shape : (f : Bool) (v : List ℕ) → f ≡ m → v ≡ w → (f && eqb (common v t) (length v)) ≡ false → (m && eqb (common w t) (length w)) ≡ false
+            shape f v a b r = rw (a, b) at r
+
+            shape′ : (f : Bool) (v : List ℕ) → f ≡ m → v ≡ w
+                → greater (cond f (greater best (common v t)) best) (most l t) ≡ greater (cond m (greater best (common w t)) best) (most l t)
+            shape′ f v a b = rw (a, b)
+
+-- a word that stands at the front of a text is its beginning
+front : (w t : List ℕ) → common w t ≡ length w → take (length w) t ≡ w
+unfolding common
+front [] t h = refl
+front (c ∷ w) [] h = let z : 0 ≡ suc (length w) = h in absurd (omega arith)
+front (c ∷ w) (b ∷ t) h = go (eqb b c) refl h (front w t)
+  where
+    go : (k : Bool) → eqb b c ≡ k → cond k (suc (common w t)) 0 ≡ suc (length w) → (common w t ≡ length w → take (length w) t ≡ w)
+        → b ∷ take (length w) t ≡ c ∷ w
+    go true p q ih = let e : b ≡ c = eqb-true b c p in let r : take (length w) t ≡ w = ih (let z : common w t ≡ length w = omega arith in z) in cc
+    go false p q ih = absurd (let z : 0 ≡ suc (length w) = q in omega arith)
+
+-- what f has from k on, an entry for each of a list
+abbrev span : {A : Type 0} → (ℕ → A) → ℕ → List ℕ → List A
+span f k [] = []
+span f k (j ∷ js) = f k ∷ span f (suc k) js
+
+-- a row for each number of a list, all of one flag and one step
+rows : {words : List ℕ} {may : List Bool} {move : ℕ → Move} {ks : List ℕ} {k : ℕ} {l : List (Choice State)} (m : Bool) (v : Move) (w : ℕ → List ℕ) (x : ℕ → State) (js : List ℕ)
+    → span (λ i. getD may i false) k js ≡ map (λ _. m) js → span (slot words) k js ≡ map w js → span move k js ≡ map (λ _. v) js
+    → ((j : ℕ) → Erases v ks (x j)) → Matches words may move ks (k + length js) l → Matches words may move ks k (each (λ j. choice m (w j) (x j)) js l)
+unfolding each
+rows {words = words} {may = may} {move = move} {ks = ks} {k = k} {l = l} m v w x [] a b c e h = subst (λ (i : ℕ). Matches words may move ks i l) (let z : k + 0 ≡ k = omega arith in z) h
+rows {words = words} {may = may} {move = move} {ks = ks} {k = k} {l = l} m v w x (j ∷ js) a b c e h =
+    let flag : getD may k false ≡ m = cc in
+    let flags : span (λ i. getD may i false) (suc k) js ≡ map (λ _. m) js = cc in
+    let entry : slot words k ≡ w j = cc in
+    let entries : span (slot words) (suc k) js ≡ map w js = cc in
+    let step : v ≡ move k = cc in
+    let steps : span move (suc k) js ≡ map (λ _. v) js = cc in
+    let past : k + suc (length js) ≡ suc k + length js = omega arith in
+    row flag entry (λ _. subst (λ (u : Move). Erases u ks (x j)) step (e j)) (rows m v w x js flags entries steps e (subst (λ (i : ℕ). Matches words may move ks i l) past h))
+
+-- the words of the table are those of the choices
+
+matches-want : (fs : List Frame) → Matches wordTable (wantMay (top (codes fs))) (wantMove (top (codes fs))) (codes fs) 0 (next (state fs want))
+unfolding next axes variables axisWord wordTable allWords wantMay wantMove slot focusCode codesIn isPath
+matches-want fs =
+    rows true (mv 1 0 13) axisWord (λ a. state fs (axis a)) axes refl refl refl (λ _. (refl, refl))
+    (rows true (mv 4 0 13) (λ k. ascii "$" ++ (48 + k) ∷ []) (λ k. state fs (have (variable k))) variables refl refl refl (λ _. (refl, refl))
+    (row refl refl (λ _. (refl, refl))
+    (row refl refl (λ _. (ap (λ (b : Bool). cond b 10 9 ∷ codes fs) (sym (takes-top fs)) ∙ either (takes (top (codes fs))), refl))
+    (row (takes-top fs) refl (λ _. (refl, refl))
+    (row (slashes-top fs) refl (λ h. (slash-codes fs h, sym (slash-focus (top (codes fs)))))
+    none)))))
+  where
+    either : (b : Bool) → cond b 10 9 ∷ codes fs ≡ pushed (cond b 10 9) (codes fs)
+    either true = refl
+    either false = refl
+
+drop-more : (p : ℕ) (ks l : List ℕ) (a : ℕ) → a ∷ l ≡ drop p ks → l ≡ drop (suc p) ks
+drop-more zero [] l a h = let z : _≡_ {A = ℕ} 0 1 = cc in absurd (omega arith)
+drop-more zero (k ∷ ks) l a h = cc
+drop-more (suc p) [] l a h = let z : _≡_ {A = ℕ} 0 1 = cc in absurd (omega arith)
+drop-more (suc p) (k ∷ ks) l a h = drop-more p ks l a h
+
+filtered-erases : (gs : List Frame) (d : Expr) (ks : List ℕ) (p : ℕ) → codes gs ≡ drop p ks → mayFilter gs ≡ true → Erases (mv 4 (suc p) 13) ks (filtered gs d)
+unfolding codesIn focusCode isPath
+filtered-erases [] d ks p h m = no-yes refl m
+filtered-erases (left l o ∷ fs) d ks p h m = no-yes refl m
+filtered-erases (lead s ∷ fs) d ks p h m = no-yes refl m
+filtered-erases (paren ∷ fs) d ks p h m = no-yes refl m
+filtered-erases (negation ∷ fs) d ks p h m = no-yes refl m
+filtered-erases (test x ∷ fs) d ks p h m = (drop-more p ks (codes fs) 12 h, refl)
+
+paren-erases : (gs : List Frame) (d : Expr) (ks : List ℕ) (p : ℕ) (b : Bool) → codes gs ≡ drop p ks → isPath d ≡ b → mayParen gs ≡ true
+    → Erases (mv (cond (eqb (top (codes gs)) 11) 5 (cond b 4 5)) (suc p) 13) ks (parenthesised gs d)
+unfolding codesIn focusCode isPath
+paren-erases [] d ks p b h e m = no-yes refl m
+paren-erases (left l o ∷ fs) d ks p b h e m = no-yes refl m
+paren-erases (lead s ∷ fs) d ks p b h e m = no-yes refl m
+paren-erases (paren ∷ fs) d ks p b h e m =
+    (drop-more p ks (codes fs) (cond (takesTest fs) 10 9) h, ap (λ (t : Bool). cond t 4 5) e ∙ go (takesTest fs))
+  where
+    go : (t : Bool) → _≡_ {A = ℕ} (cond b 4 5) (cond (eqb (cond t 10 9) 11) 5 (cond b 4 5))
+    go true = refl
+    go false = refl
+paren-erases (negation ∷ fs) d ks p b h e m = (drop-more p ks (codes fs) 11 h, refl)
+paren-erases (test x ∷ fs) d ks p b h e m = no-yes refl m
+
+below-thirteen : (o : Op) (ks : List ℕ) → opCode o ∷ ks ≡ pushed (opCode o) ks
+below-thirteen or ks = refl
+below-thirteen and ks = refl
+below-thirteen union ks = refl
+below-thirteen intersect ks = refl
+below-thirteen except ks = refl
+below-thirteen (slash one) ks = refl
+below-thirteen (slash two) ks = refl
+
+join-erases : (o : Op) (fs : List Frame) (e : Expr) → Erases (mv 0 (pops (level o) (codes fs)) (opCode o)) (codes fs) (joined o fs e)
+unfolding joined codesIn focusCode
+join-erases o fs e =
+    (ap (λ (l : List ℕ). opCode o ∷ l) (opened-codes fs (level o) (isSlash o) false (low o) (flag o)) ∙ below-thirteen o (drop (pops (level o) (codes fs)) (codes fs)), refl)
+  where
+    low : (o : Op) → leb (level o) 5 ≡ true
+    low or = refl
+    low and = refl
+    low union = refl
+    low intersect = refl
+    low except = refl
+    low (slash s) = refl
+
+    flag : (o : Op) → (leb (level o) 4 || isSlash o) ≡ true
+    flag or = refl
+    flag and = refl
+    flag union = refl
+    flag intersect = refl
+    flag except = refl
+    flag (slash s) = refl
+
+module _ (fs : List Frame) (e : Expr) where
+  abbrev focus : ℕ
+  focus = focusCode (have e)
+
+  is-may : (eqb focus 3 && takes (top (codes fs))) ≡ (isDot e && takesTest fs)
+  is-may = rw (focus-dot e, takes-top fs)
+
+  inner : (n : ℕ) → leb n 5 ≡ true → leb n 4 ≡ true → top (drop (pops n (codes fs)) (codes fs)) ≡ top (codes (opened n fs))
+  inner n l m = ap top (sym (opened-codes fs n false false l (rw m)))
+
+  filter-may : eqb (top (drop (pops 0 (codes fs)) (codes fs))) 12 ≡ mayFilter (opened 0 fs)
+  filter-may = rw (inner 0 refl refl) (filter-top (opened 0 fs))
+
+  paren-may : (ltb 8 (top (drop (pops 0 (codes fs)) (codes fs))) && ltb (top (drop (pops 0 (codes fs)) (codes fs))) 12) ≡ mayParen (opened 0 fs)
+  paren-may = rw (inner 0 refl refl) (paren-top (opened 0 fs))
+
+  or-may : takes (top (drop (pops 0 (codes fs)) (codes fs))) ≡ mayJoin or fs e
+  unfolding mayJoin
+  or-may = rw (inner 0 refl refl) (takes-top (opened 0 fs))
+
+  and-may : takes (top (drop (pops 1 (codes fs)) (codes fs))) ≡ mayJoin and fs e
+  unfolding mayJoin
+  and-may = rw (inner 1 refl refl) (takes-top (opened 1 fs))
+
+  plain-may : (o : Op) → logical o ≡ false → ltb focus 5 ≡ mayJoin o fs e
+  unfolding mayJoin
+  plain-may o h = rw h (focus-path e)
+
+  paren-move : mayParen (opened 0 fs) ≡ true
+      → Erases (mv (cond (eqb (top (drop (pops 0 (codes fs)) (codes fs))) 11) 5 (cond (sort 0 (codes fs) (ltb focus 5)) 4 5)) (suc (pops 0 (codes fs))) 13) (codes fs) (parenthesised (opened 0 fs) (closed 0 fs e))
+  paren-move m =
+      subst (λ (b : Bool). Erases (mv (cond (eqb (top (drop (pops 0 (codes fs)) (codes fs))) 11) 5 (cond b 4 5)) (suc (pops 0 (codes fs))) 13) (codes fs) (parenthesised (opened 0 fs) (closed 0 fs e)))
+      (closed-sort fs false 0 e refl refl ∙ ap (sort 0 (codes fs)) (sym (focus-path e)))
+      (subst (λ (t : ℕ). Erases (mv (cond (eqb t 11) 5 (cond (isPath (closed 0 fs e)) 4 5)) (suc (pops 0 (codes fs))) 13) (codes fs) (parenthesised (opened 0 fs) (closed 0 fs e)))
+      (sym (inner 0 refl refl))
+      (paren-erases (opened 0 fs) (closed 0 fs e) (codes fs) (pops 0 (codes fs)) (isPath (closed 0 fs e)) (opened-codes fs 0 false false refl refl) refl m))
+
+  matches-behind : Matches wordTable (haveMay focus (codes fs)) (haveMove focus (codes fs)) (codes fs) 20 (behind fs e)
+  unfolding variables axes axisWord wordTable allWords haveMay haveMove slot focusCode codesIn isPath
+  matches-behind =
+      rows (isDot e && takesTest fs) (mv 5 0 13) (λ k. ascii " is $" ++ (48 + k) ∷ []) (λ k. state fs (have (is k))) variables (ap (λ (b : Bool). b ∷ b ∷ b ∷ []) is-may) refl refl (λ _. (refl, refl))
+      (row (focus-dot e) refl (λ _. (refl, refl))
+      (row (focus-path e) refl (λ _. (refl, refl))
+      (row filter-may refl (filtered-erases (opened 0 fs) (closed 0 fs e) (codes fs) (pops 0 (codes fs)) (opened-codes fs 0 false false refl refl))
+      (row paren-may refl paren-move
+      (row or-may refl (λ _. join-erases or fs e)
+      (row and-may refl (λ _. join-erases and fs e)
+      (row (plain-may union refl) refl (λ _. join-erases union fs e)
+      (row (plain-may intersect refl) refl (λ _. join-erases intersect fs e)
+      (row (plain-may except refl) refl (λ _. join-erases except fs e)
+      (row (plain-may (slash one) refl) refl (λ _. join-erases (slash one) fs e)
+      none))))))))))
+
+-- the turns of the machine
+
+abbrev pub gapsOf : State → List ℕ
+gapsOf (state fs f) = codes fs
+
+-- from s, the first n bytes of t are read, which are the word k, and the step m is made
+pub record Goes (s : State) (t : List ℕ) (k : ℕ) (m : Move) (n : ℕ) : Type 0 where
+  pub to : State
+  pub taken : Taken s k to
+  pub reads : Reads s (take n t) to
+  pub steps : Erases m (gapsOf s) to
+  pub some : 1 ≤ n
+  pub within′ : n ≤ length t
+
+-- from s, reading t stops after p bytes
+pub record Halts (s : State) (t : List ℕ) (p : ℕ) : Type 0 where
+  pub after : reach next (between s) t ≡ p
+  pub unread : isBetween (run next (between s) t) ≡ false
+
+goes : (s to : State) (t w : List ℕ) (k : ℕ) (m : Move) (n : ℕ) → Taken s k to → Offers (next s) w to → take n t ≡ w → n ≡ length w → Erases m (gapsOf s) to → Goes s t k m n
+goes s to t w k m n c o h i e =
+    record {
+      to = to;
+      taken = c;
+      reads = ap (run next (between s)) h ∙ token s to w o;
+      steps = e;
+      some = let a : 1 ≤ length w = filled-length w (offered-cons (next s) w to (filled s) o) in omega arith;
+      within′ = let a : length (take n t) ≡ n = ap length h ∙ sym i in let b = length-take n t in omega arith;
+    }
+  where
+    filled-length : (w : List ℕ) → isCons w ≡ true → 1 ≤ length w
+    filled-length [] c = no-yes refl c
+    filled-length (b ∷ w) c = omega arith
+
+halts : (s : State) (b : ℕ) (t : List ℕ) (p : ℕ) → hits (next s) (b ∷ t) ≡ false → p ≡ most (next s) (b ∷ t) → Halts s (b ∷ t) p
+halts s b t p h e = let w = stops next s b t (filled s) h in record { after = w .0 ∙ sym e; unread = w .1 }
+
+slot-front : (w t : List ℕ) (j : ℕ) → slot wordTable j ≡ w → common w t ≡ length w → take (length (slot wordTable j)) t ≡ w
+slot-front w t j e h = ap (λ (v : List ℕ). take (length v) t) e ∙ front w t h
+
+nth-at : (l : List (Choice State)) (j : ℕ) (x : State) → ((i : ℕ) × (j ≡ 0 + i) × Nth l i x) → Nth l j x
+nth-at l j x (i, e, n) = subst (λ (y : ℕ). Nth l y x) (let z : i ≡ j = omega arith in z) n
+
+module _ (fs : List Frame) (t : List ℕ) where
+  pub want-goes : (j : ℕ) → scanFrom wordTable (wantMay (top (codes fs))) t 0 20 0 ≡ Word j
+      → Goes (state fs want) t j (wantMove (top (codes fs)) j) (length (slot wordTable j))
+  want-goes j h =
+      let f = scan-found wordTable (wantMay (top (codes fs))) (wantMove (top (codes fs))) (codes fs) t (next (state fs want)) 0 0 j (matches-want fs) (unfold next each axes variables in h) in
+      goes (state fs want) (f .to) t (f .found) j (wantMove (top (codes fs)) j) (length (slot wordTable j)) (nth-at (next (state fs want)) j (f .to) (f .nth)) (f .offered) (slot-front (f .found) t j (f .slotted) (f .stands)) (ap length (f .slotted)) (f .erases)
+
+  pub want-halts : (b p : ℕ) → scanFrom wordTable (wantMay (top (codes fs))) (b ∷ t) 0 20 0 ≡ Stop p → Halts (state fs want) (b ∷ t) p
+  want-halts b p h =
+      let w = scan-stop wordTable (wantMay (top (codes fs))) (wantMove (top (codes fs))) (codes fs) (b ∷ t) (next (state fs want)) 0 0 p (matches-want fs) (unfold next each axes variables in h) in
+      halts (state fs want) b t p (w .0) (w .1 ∙ greater-zero (most (next (state fs want)) (b ∷ t)))
+
+-- names are read a byte at a time
+
+each-miss : (m : Bool) (x : ℕ → State) (ks : List ℕ) (l : List (Choice State)) (b : ℕ) (t : List ℕ) → (m && elem b ks) ≡ false
+    → (hits (each (λ k. choice m (k ∷ []) (x k)) ks l) (b ∷ t) ≡ hits l (b ∷ t)) × (most (each (λ k. choice m (k ∷ []) (x k)) ks l) (b ∷ t) ≡ most l (b ∷ t))
+unfolding each elem hits most common
+each-miss m x [] l b t h = (refl, refl)
+each-miss m x (k ∷ ks) l b t h =
+    go m (eqb b k) (elem b ks) h (λ i. each-miss m x ks l b t i)
+  where
+    rest : Bool → List (Choice State)
+    rest m = each (λ k. choice m (k ∷ []) (x k)) ks l
+
+    go : (m q u : Bool) → (m && (q || u)) ≡ false
+        → ((m && u) ≡ false → (hits (rest m) (b ∷ t) ≡ hits l (b ∷ t)) × (most (rest m) (b ∷ t) ≡ most l (b ∷ t)))
+        → (((m && eqb (cond q 1 0) 1) || hits (rest m) (b ∷ t)) ≡ hits l (b ∷ t)) × (greater (cond m (cond q 1 0) 0) (most (rest m) (b ∷ t)) ≡ most l (b ∷ t))
+    go false q u h ih = let w = ih refl in (w .0, greater-zero (most (rest false) (b ∷ t)) ∙ w .1)
+    go true true u h ih = no-yes h refl
+    go true false u h ih = let w = ih h in (w .0, greater-zero (most (rest true) (b ∷ t)) ∙ w .1)
+
+named-focus : (e : Expr) (b : ℕ) → isNamed e ≡ true → focusCode (have (longer e b)) ≡ 2
+unfolding focusCode
+named-focus (star a) b h = no-yes refl h
+named-focus (named a name) b h = refl
+named-focus dot b h = no-yes refl h
+named-focus dots b h = no-yes refl h
+named-focus (variable k) b h = no-yes refl h
+named-focus (bracket e) b h = no-yes refl h
+named-focus (negate e) b h = no-yes refl h
+named-focus (is k) b h = no-yes refl h
+named-focus (filter e t) b h = no-yes refl h
+named-focus (rooted s e) b h = no-yes refl h
+named-focus (join o l r) b h = no-yes refl h
+
+module _ (fs : List Frame) (e : Expr) (b : ℕ) (t : List ℕ) where
+  abbrev scanned : Scan
+  scanned = scanFrom wordTable (haveMay (focusCode (have e)) (codes fs)) (b ∷ t) 20 13 0
+
+  pub name-goes : isNamed e ≡ true → elem b nameBytes ≡ true → Goes (state fs (have e)) (b ∷ t) 33 (mv 2 0 13) 1
+  unfolding next
+  name-goes n h =
+      goes (state fs (have e)) (state fs (have (longer e b))) (b ∷ t) (b ∷ []) 33 (mv 2 0 13) 1 (inl (refl, n, b, h, refl))
+      (each-at (longerChoice fs e) nameBytes (behind fs e) (b ∷ []) (state fs (have (longer e b))) b h (inl (n, refl, refl)))
+      refl
+      refl
+      (refl, named-focus e b n)
+
+  pub have-goes : (j : ℕ) → scanned ≡ Word j → Goes (state fs (have e)) (b ∷ t) j (haveMove (focusCode (have e)) (codes fs) j) (length (slot wordTable j))
+  unfolding next
+  have-goes j h =
+      let f = scan-found wordTable (haveMay (focusCode (have e)) (codes fs)) (haveMove (focusCode (have e)) (codes fs)) (codes fs) (b ∷ t) (behind fs e) 20 0 j (matches-behind fs e) (unfold each variables in h) in
+      goes (state fs (have e)) (f .to) (b ∷ t) (f .found) j (haveMove (focusCode (have e)) (codes fs) j) (length (slot wordTable j)) (inr (f .nth))
+      (each-skip (longerChoice fs e) nameBytes (behind fs e) (f .found) (f .to) (f .offered)) (slot-front (f .found) (b ∷ t) j (f .slotted) (f .stands)) (ap length (f .slotted)) (f .erases)
+
+  pub have-halts : (p : ℕ) → (isNamed e && elem b nameBytes) ≡ false → scanned ≡ Stop p → Halts (state fs (have e)) (b ∷ t) p
+  unfolding next
+  have-halts p n h =
+      let w = scan-stop wordTable (haveMay (focusCode (have e)) (codes fs)) (haveMove (focusCode (have e)) (codes fs)) (codes fs) (b ∷ t) (behind fs e) 20 0 p (matches-behind fs e) (unfold each variables in h) in
+      let m = each-miss (isNamed e) (λ k. state fs (have (longer e k))) nameBytes (behind fs e) b t n in
+      halts (state fs (have e)) b t p (m .0 ∙ w .0) (w .1 ∙ greater-zero (most (behind fs e) (b ∷ t)) ∙ sym (m .1))
+
+module _ (fs : List Frame) (a b : ℕ) (t : List ℕ) where
+  pub first-goes : elem b nameBytes ≡ true → Goes (state fs (axis a)) (b ∷ t) 33 (mv 2 0 13) 1
+  unfolding next focusCode
+  first-goes h =
+      goes (state fs (axis a)) (state fs (have (named a (b ∷ [])))) (b ∷ t) (b ∷ []) 33 (mv 2 0 13) 1 (inl (refl, b, h, refl))
+      (each-at (nameChoice fs a) nameBytes (choice true (ascii "*") (state fs (have (star a))) ∷ []) (b ∷ []) (state fs (have (named a (b ∷ [])))) b h (inl (refl, refl, refl)))
+      refl
+      refl
+      (refl, refl)
+
+  pub star-goes : b ≡ 42 → Goes (state fs (axis a)) (b ∷ t) 34 (mv 4 0 13) 1
+  unfolding next focusCode isPath
+  star-goes h =
+      goes (state fs (axis a)) (state fs (have (star a))) (b ∷ t) (ascii "*") 34 (mv 4 0 13) 1 (inr (refl, refl))
+      (each-skip (nameChoice fs a) nameBytes (choice true (ascii "*") (state fs (have (star a))) ∷ []) (ascii "*") (state fs (have (star a))) (inl (refl, refl, refl)))
+      (ap (λ (k : ℕ). k ∷ []) h)
+      refl
+      (refl, refl)
+
+  pub axis-halts : elem b nameBytes ≡ false → eqb b 42 ≡ false → Halts (state fs (axis a)) (b ∷ t) 0
+  unfolding next hits most common
+  axis-halts h n =
+      let m = each-miss true (λ k. state fs (have (named a (k ∷ [])))) nameBytes (choice true (ascii "*") (state fs (have (star a))) ∷ []) b t h in
+      halts (state fs (axis a)) b t 0 (m .0 ∙ rw n) (sym (m .1 ∙ rw n))
+
+-- a turn is what the reading does
+
+abbrev pub focusOf : State → ℕ
+focusOf (state fs f) = focusCode f
+
+-- what a turn says of the state
+abbrev pub Turned : State → List ℕ → Turn → Type 0
+Turned s t (Go k m n) = Goes s t k m n
+Turned s t (Halt p) = Halts s t p
+
+pub past-axis : (e : Expr) → (eqb (focusCode (have e)) 0 ≡ false) × (eqb (focusCode (have e)) 1 ≡ false) × (ltb 1 (focusCode (have e)) ≡ true)
+unfolding focusCode
+past-axis e = go (isNamed e) (isDot e) (isPath e)
+  where
+    go : (a b c : Bool) → (eqb (cond a 2 (cond b 3 (cond c 4 5))) 0 ≡ false) × (eqb (cond a 2 (cond b 3 (cond c 4 5))) 1 ≡ false) × (ltb 1 (cond a 2 (cond b 3 (cond c 4 5))) ≡ true)
+    go true b c = (refl, refl, refl)
+    go false true c = (refl, refl, refl)
+    go false false true = (refl, refl, refl)
+    go false false false = (refl, refl, refl)
+
+pub turned : (s : State) (b : ℕ) (t : List ℕ) → Turned s (b ∷ t) (turnOf (focusOf s) (gapsOf s) (b ∷ t))
+unfolding turnOf
+turned (state fs want) b t = unfold focusCode in go (scanFrom wordTable (wantMay (top (codes fs))) (b ∷ t) 0 20 0) refl
+  where
+    go : (r : Scan) → scanFrom wordTable (wantMay (top (codes fs))) (b ∷ t) 0 20 0 ≡ r → Turned (state fs want) (b ∷ t) (ofScan r (wantMove (top (codes fs))))
+    go (Word k) e = want-goes fs (b ∷ t) k e
+    go (Stop p) e = want-halts fs t b p e
+turned (state fs (axis a)) b t = unfold focusCode in go (elem b nameBytes) refl (eqb b 42) refl
+  where
+    go : (n : Bool) → elem b nameBytes ≡ n → (q : Bool) → eqb b 42 ≡ q → Turned (state fs (axis a)) (b ∷ t) (cond n (Go 33 (mv 2 0 13) 1) (cond q (Go 34 (mv 4 0 13) 1) (Halt 0)))
+    go true e q h = first-goes fs a b t e
+    go false e true h = star-goes fs a b t (eqb-true b 42 h)
+    go false e false h = axis-halts fs a b t e h
+turned (state fs (have e)) b t = rw (past-axis e .0, past-axis e .1, focus-named e) (go (isNamed e) refl (elem b nameBytes) refl)
+  where
+    scan : (isNamed e && elem b nameBytes) ≡ false → (r : Scan) → scanFrom wordTable (haveMay (focusCode (have e)) (codes fs)) (b ∷ t) 20 13 0 ≡ r
+        → Turned (state fs (have e)) (b ∷ t) (ofScan r (haveMove (focusCode (have e)) (codes fs)))
+    scan n (Word k) h = have-goes fs e b t k h
+    scan n (Stop p) h = have-halts fs e b t p n h
+
+    go : (m : Bool) → isNamed e ≡ m → (n : Bool) → elem b nameBytes ≡ n
+        → Turned (state fs (have e)) (b ∷ t) (cond (m && n) (Go 33 (mv 2 0 13) 1) (haveTurn (focusCode (have e)) (codes fs) (b ∷ t)))
+    go true p true q = name-goes fs e b t p q
+    go true p false q = scan (rw (p, q)) (scanFrom wordTable (haveMay (focusCode (have e)) (codes fs)) (b ∷ t) 20 13 0) refl
+    go false p n q = scan (rw p) (scanFrom wordTable (haveMay (focusCode (have e)) (codes fs)) (b ∷ t) 20 13 0) refl

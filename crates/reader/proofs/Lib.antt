@@ -1,0 +1,8 @@
+pub mod Names
+pub mod Keeping
+pub mod Places
+pub mod Took
+pub mod Copying
+pub mod Loop
+pub mod Verdicts
+pub mod Theorems

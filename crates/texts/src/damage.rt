@@ -1,0 +1,125 @@
+// Damage to a text: some of its bytes are replaced by others.
+use chart::words;
+use harness::table;
+use reference::random;
+
+// What is taken out, from one place to another, and how many bytes come instead.
+struct Cut {
+    start: usize,
+    end: usize,
+    size: usize,
+}
+
+// The bytes that are put in most often.
+const BYTES: [u8; 24] = *b" /[]().$:*-_aornuisde012";
+
+fn any_byte(seed: &mut u64) -> u8 {
+    let k = random::below(seed, 24);
+    if random::below(seed, 8) == 0 {
+        return table::byte(random::below(seed, 256));
+    }
+    if k < 24 {
+        return BYTES[k];
+    }
+    0
+}
+
+// One byte is replaced, put in or taken out.
+fn small(seed: &mut u64, piece: &mut words::Bytes, form: usize, start: usize) -> Cut {
+    let next = std::num::wrapping_add_usize(start, 1);
+    piece[0] = any_byte(seed);
+    if form == 0 {
+        return Cut {
+            start: start,
+            end: next,
+            size: 1,
+        };
+    }
+    if form == 1 {
+        return Cut {
+            start: start,
+            end: start,
+            size: 1,
+        };
+    }
+    Cut {
+        start: start,
+        end: next,
+        size: 0,
+    }
+}
+
+// A word is put in, in the place of some bytes or of all that follow.
+fn large(
+    seed: &mut u64,
+    piece: &mut words::Bytes,
+    form: usize,
+    start: usize,
+    length: usize,
+) -> Cut {
+    let word = random::below(seed, 34);
+    let size = words::length(word);
+    words::put(word, piece, 0);
+    if form == 3 {
+        return Cut {
+            start: start,
+            end: start,
+            size: size,
+        };
+    }
+    if form == 4 {
+        return Cut {
+            start: start,
+            end: length,
+            size: size,
+        };
+    }
+    let end = random::between(seed, start, length);
+    Cut {
+        start: start,
+        end: end,
+        size: size,
+    }
+}
+
+fn choose(seed: &mut u64, piece: &mut words::Bytes, length: usize) -> Cut {
+    let form = random::below(seed, 6);
+    if form < 3 {
+        let at = random::below(seed, length);
+        return small(seed, piece, form, at);
+    }
+    let start = random::between(seed, 0, length);
+    large(seed, piece, form, start, length)
+}
+
+// Byte k of the text with the piece in it.
+fn byte(text: &[u8], piece: &words::Bytes, c: Cut, k: usize) -> u8 {
+    if k < c.start {
+        return table::byte_at(text, k);
+    }
+    let inside = std::num::wrapping_sub_usize(k, c.start);
+    if inside < c.size {
+        return table::byte_at(piece, inside);
+    }
+    let behind = std::num::wrapping_sub_usize(inside, c.size);
+    table::byte_at(text, std::num::wrapping_add_usize(c.end, behind))
+}
+
+fn fill(text: &[u8], piece: &words::Bytes, c: Cut, to: &mut words::Bytes, length: usize) {
+    let mut k = 0;
+    while k < length {
+        words::put_byte(to, k, byte(text, piece, c, k));
+        k += 1;
+    }
+}
+
+// Makes a text with some damage; answers how many bytes it has.
+pub fn make(seed: &mut u64, text: &[u8], to: &mut words::Bytes) -> usize {
+    let mut piece = [0u8; 2048];
+    let c = choose(seed, &mut piece, text.len());
+    let taken = std::num::wrapping_sub_usize(c.end, c.start);
+    let kept = std::num::wrapping_sub_usize(text.len(), taken);
+    let length = std::num::wrapping_add_usize(kept, c.size);
+    fill(text, &piece, c, to, length);
+    length
+}
