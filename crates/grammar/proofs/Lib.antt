@@ -4,7 +4,7 @@ pub mod Soundness
 pub mod Theorems
 pub mod Choices
 pub mod NameBytes
-pub mod Accepted
 pub mod Examples
+pub mod Passing
 pub mod Names
 pub mod Typed

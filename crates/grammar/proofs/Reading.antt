@@ -16,7 +16,7 @@ use Rattle.grammar.specs.Grammar.Expr.{star, named, dot, dots, variable,
 use Rattle.grammar.specs.Online.{Choice, Place, run}
 use Rattle.grammar.specs.Online.Choice.{choice}
 use Rattle.grammar.specs.Online.Place.{between}
-use Rattle.grammar.specs.Automaton.{Frame, State, takesTest, floor, opened, closed, isPath, maySlash, slashed, mayFilter, filtered, mayParen, parenthesised, isDot, mayJoin, joined, each, axisChoice, variableChoice, nameChoice, longerChoice, isChoice, joinChoice, next, start, outcomeOf}
+use Rattle.grammar.specs.Automaton.{onwards, Frame, State, takesTest, floor, opened, closed, isPath, maySlash, slashed, mayFilter, filtered, mayParen, parenthesised, mayJoin, joined, each, axisChoice, variableChoice, nameChoice, longerChoice, isChoice, next, start, outcomeOf}
 use Rattle.grammar.specs.Automaton.Frame.{left, lead, paren, negation, test}
 use Rattle.grammar.specs.Automaton.Focus.{want, axis, have}
 use Rattle.grammar.specs.Automaton.State.{state}
@@ -128,19 +128,7 @@ module _ (fs : List Frame) where
       (each-skip (longerChoice fs dot) nameBytes _ (ascii " is $" ++ (48 + k) ∷ []) (state fs (have (is k)))
       (each-at (isChoice fs dot) variables _ (ascii " is $" ++ (48 + k) ∷ []) (state fs (have (is k))) k h (inl (t, refl, refl))))
 
-  has : (e : Expr) (w : List ℕ) (t : State)
-      → Offers
-      (choice (isDot e) (ascii ".") (state fs (have dots))
-      ∷ choice (isPath e) (ascii "[") (state (test e ∷ fs) want)
-      ∷ choice (mayFilter (opened 0 fs)) (ascii "]") (filtered (opened 0 fs) (closed 0 fs e))
-      ∷ choice (mayParen (opened 0 fs)) (ascii ")") (parenthesised (opened 0 fs) (closed 0 fs e))
-      ∷ joinChoice fs e or
-      ∷ joinChoice fs e and
-      ∷ joinChoice fs e union
-      ∷ joinChoice fs e intersect
-      ∷ joinChoice fs e except
-      ∷ joinChoice fs e (slash one)
-      ∷ []) w t
+  has : (e : Expr) (w : List ℕ) (t : State) → Offers (onwards fs e) w t
       → Reads (state fs (have e)) w t
   unfolding next
   has e w t o =

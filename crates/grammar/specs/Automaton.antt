@@ -227,11 +227,10 @@ isChoice fs e k = choice (isDot e && takesTest fs) (ascii " is $" ++ (48 + k) �
 abbrev pub joinChoice : List Frame → Expr → Op → Choice State
 joinChoice fs e o = choice (mayJoin o fs e) (word o) (joined o fs e)
 
--- the words that may come behind an expression, save a name's next byte, and the state after each
-abbrev pub behind : List Frame → Expr → List (Choice State)
-behind fs e =
-    each (isChoice fs e) variables
-    (choice (isDot e) (ascii ".") (state fs (have dots))
+-- the words that may come behind an expression, save a name's next byte and ' is $k', and the state after each
+abbrev pub onwards : List Frame → Expr → List (Choice State)
+onwards fs e =
+    choice (isDot e) (ascii ".") (state fs (have dots))
     ∷ choice (isPath e) (ascii "[") (state (test e ∷ fs) want)
     ∷ choice (mayFilter (opened 0 fs)) (ascii "]") (filtered (opened 0 fs) (closed 0 fs e))
     ∷ choice (mayParen (opened 0 fs)) (ascii ")") (parenthesised (opened 0 fs) (closed 0 fs e))
@@ -241,7 +240,11 @@ behind fs e =
     ∷ joinChoice fs e intersect
     ∷ joinChoice fs e except
     ∷ joinChoice fs e (slash one)
-    ∷ [])
+    ∷ []
+
+-- the same with ' is $k'
+abbrev pub behind : List Frame → Expr → List (Choice State)
+behind fs e = each (isChoice fs e) variables (onwards fs e)
 
 -- the words that may come next
 unfoldable pub next : State → List (Choice State)

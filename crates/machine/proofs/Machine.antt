@@ -13,14 +13,14 @@ use Rattle.words.specs.declared.Scan.{Scan}
 use Rattle.words.specs.declared.Scan.the-variants.{Word, Stop}
 use Rattle.machine.specs.declared.Move.{Move}
 use Rattle.words.specs.Words.{common, slot, greater, scanFrom, allWords, wordTable}
-use Rattle.grammar.specs.Grammar.{Expr, Op, Slash, ascii, elem, axes, axisWord, variables, nameBytes, level, logical}
+use Rattle.grammar.specs.Grammar.{Expr, Op, ascii, elem, axes, axisWord, variables, nameBytes, level, logical}
 use Rattle.grammar.specs.Grammar.Slash.{one, two}
 use Rattle.grammar.specs.Grammar.Op.{or, and, union, intersect, except, slash}
 use Rattle.grammar.specs.Grammar.Expr.{star, named, dot, dots, variable, bracket, negate, is, filter, rooted, join}
-use Rattle.grammar.specs.Online.{Choice, Place, run, reach}
+use Rattle.grammar.specs.Online.{Choice, run, reach}
 use Rattle.grammar.specs.Online.Choice.{choice}
 use Rattle.grammar.specs.Online.Place.{between}
-use Rattle.grammar.specs.Automaton.{Frame, Focus, State, takesTest, opened, closed, isPath, isDot, isNamed, maySlash, slashed, mayFilter, filtered, mayParen, parenthesised, mayJoin, joined, each, nameChoice, longer, longerChoice, behind, next}
+use Rattle.grammar.specs.Automaton.{Frame, State, takesTest, opened, closed, isPath, isDot, isNamed, maySlash, slashed, mayFilter, filtered, mayParen, parenthesised, mayJoin, joined, each, nameChoice, longer, longerChoice, behind, next}
 use Rattle.grammar.specs.Automaton.Frame.{left, lead, paren, negation, test}
 use Rattle.grammar.specs.Automaton.Focus.{want, axis, have}
 use Rattle.grammar.specs.Automaton.State.{state}

@@ -10,7 +10,7 @@ use Rattle.words.specs.declared.Scan.the-variants.{Word, Stop}
 use Rattle.machine.specs.declared.Turn.{Turn}
 use Rattle.machine.specs.declared.Turn.the-variants.{Go, Halt}
 use Rattle.words.specs.Words.{slot, scanFrom, wordTable}
-use Rattle.grammar.specs.Grammar.{Op, Slash, elem, nameBytes}
+use Rattle.grammar.specs.Grammar.{Op, elem, nameBytes}
 use Rattle.grammar.specs.Grammar.Slash.{one, two}
 use Rattle.grammar.specs.Grammar.Op.{or, and, union, intersect, except, slash}
 use Rattle.grammar.specs.Automaton.{Frame, Focus, takesTest, isPath, isDot, isNamed}

@@ -1,8 +1,8 @@
 -- Laws for the loop that writes a table over the front of a buffer.
-use Prim.Native.Nat.{ℕ, suc, _+_, _≤_, _<_}
+use Prim.Native.Nat.{ℕ, _+_, _≤_, _<_}
 use native.Mathlib.Omega.{arith}
-use mathlib.Core.Path.{_≡_, refl, sym, ap, _∙_}
-use mathlib.Core.List.{List, [], _∷_, _++_}
+use mathlib.Core.Path.{_≡_, refl, _∙_}
+use mathlib.Core.List.{List, _++_}
 use lib.ListN.{length, take, drop, getD, set}
 use lib.Seq.{length-take-le, take-suc}
 use Rattle.model.proofs.Bytes.{front-more, front-done}

@@ -1,32 +1,32 @@
 -- What the reading of a text keeps from turn to turn, and what it comes to.
-use Prim.Native.Nat.{ℕ, zero, suc, _+_, _-_, _*_, _≤_, _<_}
+use Prim.Native.Nat.{ℕ, _+_, _-_, _*_, _≤_, _<_}
 use native.Mathlib.Omega.{arith}
 use mathlib.Core.Path.{_≡_, refl, sym, ap, _∙_, subst}
 use mathlib.Core.Logic.{_⊎_, ⊎-elim}
-use mathlib.Core.Bool.{Bool, true, false, not, _&&_, _||_, cond}
+use mathlib.Core.Bool.{Bool, true, false, not, cond}
 use mathlib.Core.List.{List, [], _∷_, _++_, append-nil}
-use lib.ListN.{length, take, drop, set}
+use lib.ListN.{length, take, drop}
 use lib.Seq.{length-take-le}
 use lib.Dec.{ltb, eqb}
-use borrow.Author.Tests.{eqb-true, eq-eqb, ltb-true, ltb-false}
+use borrow.Author.Tests.{eqb-true, ltb-true, ltb-false}
 use Rattle.model.proofs.Booleans.{Seen, yes!, no!, seen, no-yes}
-use Rattle.model.specs.Encoding.{Term, size, encode, pathTerm, tableOf, columns, columnsOf}
+use Rattle.model.specs.Encoding.{Term, size, pathTerm, columns}
 use Rattle.grammar.specs.Grammar.{Expr}
-use Rattle.grammar.specs.Online.{Choice, Place, run}
+use Rattle.grammar.specs.Online.{Choice, run}
 use Rattle.grammar.specs.Online.Choice.{choice}
-use Rattle.grammar.specs.Automaton.{Frame, Focus, State, Outcome, next, start, each, behind, outcomeAt, outcomeOf, readable, stopsAt}
+use Rattle.grammar.specs.Automaton.{State, next, start, each, behind, outcomeAt, readable}
 use Rattle.grammar.specs.Automaton.State.{state}
 use Rattle.grammar.specs.Automaton.Focus.{want, axis, have}
-use Rattle.grammar.specs.Automaton.Outcome.{accepted, refused}
-use Rattle.grammar.specs.Typed.{TypedName, pathOf, namesIn}
+use Rattle.grammar.specs.Automaton.Outcome.{accepted}
+use Rattle.grammar.specs.Typed.{pathOf, namesIn}
 use Rattle.grammar.proofs.Soundness.{After}
-use Rattle.grammar.proofs.Choices.{Nth, Taken, Every, every-taken}
-use Rattle.grammar.proofs.Names.{finished, pendingName, inName, isAxisFocus, Begun, NamesOn, names-on, names-start, names-end, BegunOn, begun-on}
+use Rattle.grammar.proofs.Choices.{Nth, Taken, every-taken}
+use Rattle.grammar.proofs.Names.{finished, pendingName, isAxisFocus, Begun, NamesOn, names-on, names-start, names-end, BegunOn, begun-on}
 use Rattle.machine.specs.declared.Move.{Move}
 use Rattle.machine.specs.declared.Turn.{Turn}
 use Rattle.machine.specs.declared.Turn.the-variants.{Go, Halt}
-use Rattle.machine.specs.Machine.{codesIn, focusCode, stackOf, turnOf, mayEnd}
-use Rattle.machine.proofs.Machine.{gapsOf, focusOf, Goes, Turned}
+use Rattle.machine.specs.Machine.{codesIn, focusCode, stackOf}
+use Rattle.machine.proofs.Machine.{gapsOf, focusOf, Goes}
 use Rattle.machine.proofs.Loop.{At, at-after, turn-here, halt-fits, halt-place, halt-unread, go-some, go-within, Went, at-go, end-place, end-read, Accepted, end-accepted}
 use Rattle.entries.specs.declared.Draft.{Draft}
 use Rattle.entries.specs.Postfix.{Item, Made, Sound, Wrote, postfix, appendAll, made, blank}
@@ -36,7 +36,7 @@ use Rattle.emission.proofs.Emission.{OnAxis, AxisOn, axis-on, Tagged, Emits, wr
 use Rattle.reader.specs.declared.Progress.{Progress}
 use Rattle.reader.specs.declared.Sought.{Sought}
 use Rattle.reader.specs.declared.Reading.{Reading}
-use Rattle.reader.specs.Read.{expression, typed, tagIn, queryOf, entriesIn, anyUnknown, unknownPlace}
+use Rattle.reader.specs.Read.{expression, typed, tagIn, queryOf, anyUnknown, unknownPlace}
 use Rattle.reader.specs.Turns.{beginning, soughtAt, kept, opens, moved, turnAt, Within, Took, Finished, ReadsTo}
 use Rattle.reader.proofs.Names.{on-axis, some-tag, Ends, ends-here, goes-on, place-most}
 

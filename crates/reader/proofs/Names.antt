@@ -4,12 +4,11 @@ use native.Mathlib.Omega.{arith}
 use mathlib.Core.Path.{_≡_, refl, sym, ap, _∙_, subst}
 use mathlib.Core.Bool.{Bool, true, false, not, _&&_, _||_, cond}
 use mathlib.Core.List.{List, [], _∷_, _++_, append-nil}
-use lib.ListN.{length, take, drop}
+use lib.ListN.{take, drop}
 use lib.Dec.{eqb}
 use Rattle.model.proofs.Booleans.{no-yes}
-use Rattle.grammar.specs.Grammar.{Expr, Op, Slash}
 use Rattle.grammar.specs.Grammar.Expr.{star, named, dot, dots, variable, bracket, negate, is, filter, rooted, join}
-use Rattle.grammar.specs.Automaton.{Frame, Focus, State, isNamed}
+use Rattle.grammar.specs.Automaton.{State}
 use Rattle.grammar.specs.Automaton.Focus.{want, axis, have}
 use Rattle.grammar.specs.Automaton.State.{state}
 use Rattle.grammar.specs.Typed.{TypedName, namesIn}
@@ -17,9 +16,7 @@ use Rattle.grammar.proofs.Soundness.{After}
 use Rattle.grammar.proofs.Names.{finished, pendingName, inName, isAxisFocus, Begun, pending-part, pending-none}
 use Rattle.machine.specs.Machine.{focusCode}
 use Rattle.machine.proofs.Machine.{focusOf, focus-named, past-axis}
-use Rattle.emission.proofs.Emission.{NamedBy, Tagged}
-use Rattle.names.specs.declared.Tag.{Tag}
-use Rattle.names.specs.declared.Tag.the-variants.{Known, Unknown}
+use Rattle.emission.proofs.Emission.{Tagged}
 use Rattle.names.specs.Tags.{tagOf, tagNumber, isKnown}
 use Rattle.reader.specs.declared.Progress.{Progress}
 use Rattle.reader.specs.declared.Sought.{Sought}

@@ -1,6 +1,6 @@
 -- Laws for the functions that move the place on.
 use Prim.Native.Nat.{ℕ, _+_, _-_}
-use mathlib.Core.Path.{_≡_, refl, sym, ap, _∙_, subst}
+use mathlib.Core.Path.{_≡_, refl, sym, ap, _∙_}
 use mathlib.Core.Bool.{Bool, true, false, not, _&&_, _||_, cond}
 use mathlib.Core.List.{List}
 use lib.ListN.{take, drop}
@@ -10,7 +10,7 @@ use Rattle.entries.specs.declared.Draft.{Draft}
 use Rattle.entries.specs.Postfix.{blank}
 use Rattle.names.specs.declared.Tag.{Tag}
 use Rattle.names.specs.declared.Tag.the-variants.{Known, Unknown}
-use Rattle.names.specs.Tags.{tagOf, tagNumber, isKnown}
+use Rattle.names.specs.Tags.{tagOf}
 use Rattle.reader.specs.declared.Progress.{Progress}
 use Rattle.reader.specs.declared.Sought.{Sought}
 use Rattle.reader.specs.Turns.{beginning, soughtName, soughtAt, kept, opens, moved}
@@ -54,7 +54,8 @@ not-yes : (b : Bool) → not b ≡ true → b ≡ false
 not-yes true h = sym h
 not-yes false h = refl
 
-not-no : (b : Bool) → not b ≡ false → b ≡ true
+-- a test that does not fail
+pub not-no : (b : Bool) → not b ≡ false → b ≡ true
 not-no true h = refl
 not-no false h = sym h
 

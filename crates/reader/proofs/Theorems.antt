@@ -1,8 +1,8 @@
 -- What an accepted reading is worth.
 use Prim.Native.Nat.{ℕ, _*_, _≤_}
 use native.Mathlib.Omega.{arith}
-use mathlib.Core.Path.{_≡_, refl, sym}
-use mathlib.Core.Bool.{Bool, true, false, not}
+use mathlib.Core.Path.{_≡_, refl}
+use mathlib.Core.Bool.{true, not}
 use mathlib.Core.List.{List, [], _∷_, _++_}
 use lib.ListN.{length}
 use lib.Dec.{ltb}
@@ -14,13 +14,10 @@ use Rattle.model.proofs.Refusals.{numbered, passed, Passes-front}
 use Rattle.names.specs.Names.{nameTableChecks}
 use Rattle.grammar.specs.Automaton.{readable, stopsAt}
 use Rattle.grammar.specs.Typed.{namesIn}
-use Rattle.grammar.proofs.Accepted.{typed-passes}
+use Rattle.grammar.proofs.Passing.{typed-passes}
 use Rattle.reader.specs.Read.{typed, tagIn, queryOf, entriesIn, anyUnknown, unknownPlace, badLength, textChecks, madeChecks, readChecks}
+use Rattle.reader.proofs.Places.{not-no}
 use Rattle.reader.proofs.Verdicts.{typed-fits, all-tagged}
-
-not-no : (b : Bool) → not b ≡ false → b ≡ true
-not-no true h = refl
-not-no false h = sym h
 
 module _ (text house site : List ℕ) (room : ℕ) where
   abbrev unknownCheck : Check

@@ -1,9 +1,9 @@
 -- Laws for a turn, and for the end of the text.
 use Prim.Native.Nat.{ℕ, _+_, _-_, _≤_, _<_}
 use mathlib.Core.Path.{_≡_, refl, sym, ap, _∙_, subst}
-use mathlib.Core.Bool.{Bool, true, false, not, cond}
+use mathlib.Core.Bool.{true, not}
 use mathlib.Core.List.{List}
-use lib.ListN.{length, set}
+use lib.ListN.{set}
 use lib.Dec.{eqb}
 use Rattle.machine.specs.declared.Move.{Move}
 use Rattle.machine.specs.declared.Turn.{Turn}

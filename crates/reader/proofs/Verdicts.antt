@@ -20,14 +20,15 @@ use Rattle.names.specs.Tags.{tagOf, tagNumber}
 use Rattle.names.proofs.Tags.{tag-names}
 use Rattle.names.specs.declared.Tag.{Tag}
 use Rattle.names.specs.declared.Tag.the-variants.{Known, Unknown}
-use Rattle.grammar.specs.Grammar.{Expr, Grammatical, fits}
+use Rattle.grammar.specs.Grammar.{Expr, fits}
 use Rattle.grammar.specs.Automaton.{readable, stopsAt}
-use Rattle.grammar.specs.Typed.{namesIn, pathOf}
-use Rattle.grammar.proofs.Accepted.{Tagged, tagged-all, columns-few}
+use Rattle.grammar.specs.Typed.{namesIn}
+use Rattle.grammar.proofs.Passing.{Tagged, tagged-all, columns-few}
 use Rattle.grammar.proofs.Theorems.{readable-grammatical, read-reading}
 use Rattle.reader.specs.declared.Reading.{Reading}
 use Rattle.reader.specs.Read.{expression, typed, tagIn, queryOf, entriesIn, anyUnknown, unknownPlace, badLength, textChecks, madeChecks, readChecks, readReply, refusal, Leaves, TableLeaves, ReadLeaves}
 use Rattle.reader.specs.Turns.{ReadsTo, readingChecks}
+use Rattle.reader.proofs.Places.{not-no}
 
 pub all-pass : (r : Reading) (room : ℕ) (v : Reply) → v ≡ reply 0 0 → not (r .readable) ≡ false → r .unknown ≡ false → ltb 64 (r .draft .entries) ≡ false
     → ltb room (4 * r .draft .entries) ≡ false → v ≡ verdict (readingChecks r room)
@@ -140,10 +141,6 @@ module _ (text house site : List ℕ) (r : Reading) (table : List ℕ) (w : Read
 
     is-readable : readable text ≡ true
     is-readable = sym (w .reads) ∙ not-no (r .readable) (checked .0)
-      where
-        not-no : (b : Bool) → not b ≡ false → b ≡ true
-        not-no true h = refl
-        not-no false h = sym h
 
     pub entries-fit : r .draft .entries ≤ 64
     entries-fit = ltb-false 64 (r .draft .entries) (checked .2)

@@ -1,9 +1,9 @@
 -- The service that reads a typed query into a query table (document 02, §1), as a total function of all that it is lent.
 use Prim.Native.Nat.{ℕ, _*_}
 use mathlib.Core.Path.{_≡_}
-use mathlib.Core.Bool.{Bool, true, false, not, _||_, cond}
+use mathlib.Core.Bool.{Bool, false, not, _||_, cond}
 use mathlib.Core.List.{List, [], _∷_, _++_}
-use lib.ListN.{length, take}
+use lib.ListN.{length}
 use lib.Dec.{ltb, eqb}
 use Rattle.model.specs.Syntax.{Path}
 use Rattle.model.specs.Encoding.{size, pathTerm, tableOf, columnsOf}

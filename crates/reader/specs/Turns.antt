@@ -6,7 +6,7 @@ use mathlib.Core.List.{List, [], _∷_}
 use lib.ListN.{length, take, drop, set}
 use lib.Dec.{ltb, eqb}
 use Rattle.model.specs.Refusals.{Check, refuse, refuseHere}
-use Rattle.model.specs.Encoding.{size, pathTerm, tableOf, columnsOf}
+use Rattle.model.specs.Encoding.{tableOf, columnsOf}
 use Rattle.grammar.specs.Automaton.{readable, stopsAt}
 use Rattle.grammar.specs.Typed.{namesIn}
 use Rattle.machine.specs.declared.Move.{Move}
@@ -40,10 +40,11 @@ soughtAt text house site p ended =
     cond (eqb (p .focus) 2 && ended) (soughtName (tagOf house site (take (p .at - p .start) (drop (p .start) text))) p)
     (record { tag = 0; unknown = p .unknown; place = p .place })
 
--- how many gaps a step leaves: some close, and one opens
+-- how many gaps a step leaves open
 abbrev pub kept : Progress → Move → ℕ
 kept p m = p .depth - m .pops
 
+-- how many it opens: one, or none where the move says 13
 abbrev pub opens : Move → ℕ
 opens m = cond (ltb (m .push) 13) 1 0
 

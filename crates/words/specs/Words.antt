@@ -1,6 +1,6 @@
 -- Looking for words of a table at a place of a text.
 use Prim.Native.Nat.{ℕ, zero, suc, _+_, _-_, _*_, _%_}
-use mathlib.Core.Bool.{Bool, true, false, _&&_, cond}
+use mathlib.Core.Bool.{Bool, false, _&&_, cond}
 use mathlib.Core.List.{List, [], _∷_, _++_, map}
 use lib.ListN.{length, take, drop, getD, replicate}
 use lib.Dec.{ltb, eqb}
@@ -50,15 +50,3 @@ table (w ∷ ws) = length w ∷ (w ++ (replicate (20 - length w) 0 ++ table ws))
 unfoldable pub wordTable : List ℕ
 unfolding allWords axes variables axisWord
 wordTable = table allWords
-
--- what the code's cases stand for
-
--- whether a word stands there
-abbrev pub isWord : Scan → Bool
-isWord (Word k) = true
-isWord (Stop n) = false
-
--- its number; where none does, the most bytes that one of those sought begins with there
-abbrev pub scanNumber : Scan → ℕ
-scanNumber (Word k) = k
-scanNumber (Stop n) = n

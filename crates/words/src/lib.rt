@@ -5,7 +5,7 @@ ghost use Prim.Native.Nat.{_+_, _-_, _*_, _≤_, _<_};
 ghost use lib.ListN.{length, take, drop};
 ghost use Rattle.words.specs.Words.{common, slot, greater, scanFrom, wordTable};
 
-// What stands at a place (specs/Words.antt: isWord, scanNumber).
+// What stands at a place (specs/Words.antt: scanFrom).
 pub enum Scan {
     // A word, by its number.
     Word(usize),
