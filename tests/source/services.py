@@ -12,7 +12,6 @@ sys.path.insert(0, os.path.join(os.path.dirname(__file__), "..", "support"))
 import declared, statements
 from repository import end
 
-SIGNATURE = re.compile(r"\bfn \w+(?:<[^>]*>)?\((.*?)\)(?: -> ([^{]*?))?\s*(?=requires\b|ensures\b|$)", re.S)
 ENSURES = re.compile(r"\bensures \{ λ (\w+)\.\s*⌜(.*)⌝ \}\s*$", re.S)
 
 
@@ -54,8 +53,8 @@ class Contract:
     def __init__(self, lines, definitions, fields):
         """A function's signature and clauses, the definitions of specs/ that its file uses, and the fields of what it returns."""
         self.text, self.definitions, self.fields = "\n".join(lines), definitions, fields
-        found, self.ensures = SIGNATURE.search(self.text), ENSURES.search(self.text)
-        self.parameters, self.replies = dict(re.findall(r"(\w+): ([^,]+)", found[1])), bool(found[2])
+        self.ensures = ENSURES.search(self.text)
+        self.parameters, self.returned = declared.signature(lines)
         self.result = self.ensures and self.ensures[1]
 
     def outcome(self, part):
@@ -94,7 +93,7 @@ class Contract:
         settling = [(c, self.settled(c)) for c in clauses(term(self.ensures[2]))]
         values = {value for _, some in settling for value in some}
         parts = {(self.result, f) for f in self.fields}
-        if self.replies and (self.result, None) not in values and not (parts and parts <= values):
+        if self.returned and (self.result, None) not in values and not (parts and parts <= values):
             yield "has no clause that gives its reply by a definition of specs/"
         for name, kind in self.parameters.items():
             if re.match(r"&('\w+ )?mut\b", kind) and (name, None) not in values:
@@ -106,7 +105,7 @@ class Contract:
 def contract(item):
     names = declared.scope(item.path)[0]
     definitions = {name for name, i in names.items() if i.path.split(os.sep)[2] == "specs"}
-    returned = SIGNATURE.search("\n".join(item.statement))[2] or ""
+    returned = declared.signature(item.statement)[1]
     fields = [f for t in declared.types(returned, item.path) for f in re.findall(r"^ +pub (\w+):", "\n".join(t.statement), re.M)]
     return Contract(item.statement, definitions, fields)
 

@@ -16,6 +16,7 @@ EXPORTED = re.compile(r'\bextern "C" fn\b|^ *#\[.*\b(?:no_mangle|export_name)\b'
 WORD = re.compile(r"[^\s(){};,⌜⌝]+")
 CLAUSE = re.compile(r"^    (requires|ensures)\b", re.M)
 TYPE = re.compile(r"(?:\b(\w+)::)?\b([A-Z]\w*)")
+SIGNATURE = re.compile(r"\bfn \w+(?:<[^>]*>)?\((.*?)\)(?: -> ([^{]*?))?\s*(?=requires\b|ensures\b|$)", re.S)
 UNTYPED = re.compile(r'^#\[.*|^ +[A-Z]\w*|"C"', re.M)  # an attribute, the name of a case, the name of a calling convention
 
 
@@ -25,13 +26,13 @@ class Fault(Exception):
 
 class Item:
     """A declaration: the comment right above it; its statement, which is the type of a definition or law, the signature and the
-    contract of a function, and all of a record or a type; its body; and the heads of the modules that it stands in. All are
-    lines as the file has them."""
+    contract of a function, and all of a record or a type; its body, or the code of a function; and the heads of the modules that
+    it stands in. All are lines as the file has them."""
 
     def __init__(self, path, name, kind, public, comment, statement, enclosing=(), exported=False):
         self.path, self.name, self.kind, self.public = path, name, kind, public
         self.comment, self.statement, self.body = comment, statement, []
-        self.enclosing, self.exported = enclosing, exported
+        self.enclosing, self.exported, self.code, self.code_at = enclosing, exported, [], 0
         self.cases = CASE.findall("\n".join(statement)) if kind == "data" else []
 
 
@@ -77,8 +78,8 @@ def coded(path, lines):
     found, comment, marks = [], [], []
     for at, line in enumerate(lines):
         named = ITEM.match(line)
-        if EXPORTED.search(line) and line[0] == " ":
-            raise Fault("%s: exported, and not at the top level: '%s'" % (path, line.strip()))
+        if EXPORTED.search(line) and not line.startswith(("#[", "//")) and not named:
+            raise Fault("%s: exported, and not by a function at the top level: '%s'" % (path, line.strip()))
         if line.startswith("//"):
             comment.append(line)
         elif line.startswith("#["):
@@ -89,11 +90,18 @@ def coded(path, lines):
                 head = marks + lines[at:body] + [lines[body][:-1].rstrip()] * (lines[body] != "{")
                 exported = any(EXPORTED.search(text) for text in head)
                 found.append(Item(path, named[3], "fn", bool(named[1]), comment, head, exported=exported))
+                found[-1].code, found[-1].code_at = lines[body + 1 : lines.index("}", body)], body + 1
             elif named:
                 end = next(i for i in range(at, len(lines)) if lines[i].endswith((";", "}")) and lines[i][0] != " ")
                 found.append(Item(path, named[3], named[2], bool(named[1]), comment, marks + lines[at : end + 1]))
             comment, marks = [], []
     return found
+
+
+def signature(statement):
+    """The parameters of a function with their types, and the type of its result, or an empty text where it has none."""
+    found = SIGNATURE.search("\n".join(uncommented("\n".join(statement), "//")))
+    return dict(re.findall(r"(\w+): ([^,]+)", found[1])), found[2] or ""
 
 
 @functools.lru_cache(None)

@@ -35,7 +35,7 @@ def crates():
     return listed
 
 
-def services():
+def services(read=read):
     """The lines of tests/services.txt: crate and function."""
     for line in uncommented(read("tests/services.txt"), "#"):
         words = line.split()

@@ -63,7 +63,8 @@ fn row(tree: &[u16], prev: &[u16], query: &[u16], nodes: &[u16], x: usize) -> [u
     eval::path(tree, prev, query, nodes, query.len() / 4 - 1, false, s)
 }
 
-// All pairs of the query, row after row; a row's start is carried along. One evaluation for each node.
+// All pairs of the query, row after row. A row's start is carried along by adding n, so that no product finds a place: there are
+// terminals that multiply slowly. One evaluation for each node.
 pub fn pairs_into(tree: &[u16], query: &[u16], nodes: &[u16], table: &mut [u8])
     requires { ⌜ Tables (now tree) (now query) (now nodes) × (sizeOf (now tree) * sizeOf (now tree) ≤ length (now table)) ⌝ }
     ensures { λ _.
