@@ -76,10 +76,10 @@ def called_for(source, function, span, above):
             yield "calls %s, which %s" % (call.name, "calls itself" if called else "cannot be read")
             continue
         tokens, whole = called.tokens, (0, len(called.tokens))
-        faults = list(products(called)) + repeated(tokens, whole)
-        faults += ["has '%s'" % t for t in tokens if t not in SUM and (t in KEYWORDS or not re.match(r"\w", t))]
-        faults += called_for(source, called, whole, above + (called,))
-        yield from ("calls %s, which %s" % (called.name, fault) for fault in faults)
+        wrong = list(products(called)) + repeated(tokens, whole)
+        wrong += ["has '%s'" % t for t in tokens if t not in SUM and (t in KEYWORDS or not re.match(r"\w", t))]
+        wrong += called_for(source, called, whole, above + (called,))
+        yield from ("calls %s, which %s" % (called.name, fault) for fault in wrong)
 
 
 def faults(writer):
