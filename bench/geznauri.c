@@ -6,7 +6,7 @@ static const uint16_t *table;
 static size_t count, last;
 static const struct query *current;
 static uint8_t from[256], to[256];
-static gz_reply reply;
+static gz_image_reply reply;
 
 static void open_document(const char *xml, const uint16_t *tree, size_t n)
 {

@@ -119,7 +119,7 @@
  * A node set is n bytes: byte k is 1 if node k is in the set, else 0. The forward image of a set has y exactly if some x of
  * the set has the pair (x, y); the backward image has x exactly if some y of the set has the pair (x, y). The relation table
  * is n * n bytes: the byte at x * n + y is 1 if (x, y) is a pair, else 0. A result takes the first n or n * n bytes of its
- * buffer, and the bytes behind keep what they held.
+ * buffer, and the bytes behind keep what they held. With an image comes its count, the number of nodes in it.
  *
  *
  * 5  ANSWERS, PAGES, CURSORS
@@ -250,8 +250,8 @@
 /* The version of this header and of the archive that it describes. GZ_VERSION_MAJOR is counted up, and MINOR set to 0, where a
    program that was written to the header before may break: another reply to the same call, a refusal of what was accepted or the
    reverse, another type, size or name. GZ_VERSION_MINOR is counted up where something is added and all else is as it was. */
-#define GZ_VERSION_MAJOR 1
-#define GZ_VERSION_MINOR 1
+#define GZ_VERSION_MAJOR 2
+#define GZ_VERSION_MINOR 0
 
 #ifdef __cplusplus
 extern "C" {
@@ -263,6 +263,13 @@ extern "C" {
 typedef struct {
     uint16_t number, place;
 } gz_reply;
+
+/* The reply to gz_forwards and gz_backwards: number and place as above, and how many nodes are in the image. Of a refused call,
+   count is 0. */
+typedef struct {
+    uint16_t number, place;
+    size_t count;
+} gz_image_reply;
 
 /* The reply to a page call: number and place as above, how many rows it wrote, and whether there is an answer after them. Of
    a refused call, count is 0 and more is false. */
@@ -304,16 +311,19 @@ gz_reply gz_check_query(const uint16_t *query, size_t query_len, uint16_t column
 
 /* The nodes that the node set `from` reaches by the query: its forward image. nodes[k] is the node assigned to variable k, so
    that nodes_len is columns (NULL and 0 for a query without variables). from_len is n; to_len is n or more. Refusals 5 to 20.
-   Accepted, the first n bytes of `to` are the image, and all later bytes are as they were; refused, all of `to` is.
+   Accepted, the first n bytes of `to` are the image, all later bytes are as they were, and count is the number of nodes in the
+   image, 0 to n; refused, all of `to` is as it was.
    A query without intersect and except takes time in proportion to its entries times n, however it nests; intersect and
    except evaluate their operands once for each start node; where one stands inside an operand of another, behind a
    composition or in a filter, each such one takes up to n times as long. */
-gz_reply gz_forwards(const uint16_t *tree, size_t tree_len, const uint16_t *query, size_t query_len, uint16_t columns,
-                     const uint16_t *nodes, size_t nodes_len, const uint8_t *from, size_t from_len, uint8_t *to, size_t to_len);
+gz_image_reply gz_forwards(const uint16_t *tree, size_t tree_len, const uint16_t *query, size_t query_len, uint16_t columns,
+                           const uint16_t *nodes, size_t nodes_len, const uint8_t *from, size_t from_len, uint8_t *to,
+                           size_t to_len);
 
-/* The nodes that reach the node set `from` by the query: its backward image. All else is as for gz_forwards. */
-gz_reply gz_backwards(const uint16_t *tree, size_t tree_len, const uint16_t *query, size_t query_len, uint16_t columns,
-                      const uint16_t *nodes, size_t nodes_len, const uint8_t *from, size_t from_len, uint8_t *to, size_t to_len);
+/* The nodes that reach the node set `from` by the query: its backward image. All else, count too, is as for gz_forwards. */
+gz_image_reply gz_backwards(const uint16_t *tree, size_t tree_len, const uint16_t *query, size_t query_len, uint16_t columns,
+                            const uint16_t *nodes, size_t nodes_len, const uint8_t *from, size_t from_len, uint8_t *to,
+                            size_t to_len);
 
 /* All pairs of the query, under the assignment `nodes`: the relation table. table_len is n * n or more. Refusals 5 to 17 and
    20. Accepted, the first n * n bytes of `table` are the relation, the pair (x, y) at x * n + y, and all later bytes are as

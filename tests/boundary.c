@@ -7,6 +7,8 @@
 #include <string.h>
 
 _Static_assert(sizeof(gz_reply) == 4 && offsetof(gz_reply, number) == 0 && offsetof(gz_reply, place) == 2, "gz_reply");
+_Static_assert(sizeof(gz_image_reply) == 16 && offsetof(gz_image_reply, number) == 0 && offsetof(gz_image_reply, place) == 2, "gz_image_reply");
+_Static_assert(offsetof(gz_image_reply, count) == 8, "gz_image_reply");
 _Static_assert(sizeof(gz_page_reply) == 24 && offsetof(gz_page_reply, number) == 0 && offsetof(gz_page_reply, place) == 2, "gz_page_reply");
 _Static_assert(offsetof(gz_page_reply, count) == 8 && offsetof(gz_page_reply, more) == 16, "gz_page_reply");
 _Static_assert(sizeof(gz_read_reply) == 24 && offsetof(gz_read_reply, number) == 0 && offsetof(gz_read_reply, place) == 2, "gz_read_reply");
@@ -14,8 +16,8 @@ _Static_assert(offsetof(gz_read_reply, count) == 8 && offsetof(gz_read_reply, co
 _Static_assert(sizeof(gz_cursor) == 8 && offsetof(gz_cursor, begun) == 0 && offsetof(gz_cursor, last) == 2, "gz_cursor");
 _Static_assert(sizeof(gz_part) == 16 && offsetof(gz_part, start) == 0 && offsetof(gz_part, length) == 8, "gz_part");
 _Static_assert(sizeof(bool) == 1 && sizeof(size_t) == 8, "bool and size_t");
-#if GZ_VERSION_MAJOR != 1 || GZ_VERSION_MINOR < 1
-#error "this program is written to version 1.1 of the header"
+#if GZ_VERSION_MAJOR != 2
+#error "this program is written to version 2.0 of the header"
 #endif
 
 #define PATTERN 0xA5
@@ -106,8 +108,8 @@ static void queries(void)
 
 /* Images and pairs. */
 
-typedef gz_reply image_function(const uint16_t *, size_t, const uint16_t *, size_t, uint16_t, const uint16_t *, size_t,
-                                const uint8_t *, size_t, uint8_t *, size_t);
+typedef gz_image_reply image_function(const uint16_t *, size_t, const uint16_t *, size_t, uint16_t, const uint16_t *, size_t,
+                                      const uint8_t *, size_t, uint8_t *, size_t);
 
 static const struct direction {
     const char *name;
@@ -136,16 +138,26 @@ static size_t bytes(uint8_t *to, const char *digits)
     return length;
 }
 
+/* How many nodes are in a set that is written so; none where a call is refused and has no result. */
+static size_t ones(const char *digits)
+{
+    size_t count = 0;
+    for (; *digits != '\0'; digits++)
+        count += *digits == '1';
+    return count;
+}
+
 static void image(const struct direction *d, const char *what, struct lent l, const char *from, size_t room, uint16_t number,
                   uint16_t place, const char *result)
 {
-    uint8_t set[64], memory[MARGIN + 64 + MARGIN], wanted[sizeof memory];
+    uint8_t set[256], memory[MARGIN + 256 + MARGIN], wanted[sizeof memory];
     size_t length = bytes(set, from);
     memset(memory, PATTERN, sizeof memory);
     memset(wanted, PATTERN, sizeof wanted);
     bytes(wanted + MARGIN, result);
-    gz_reply r = d->function(l.tree, l.tree_len, l.query, l.query_len, l.columns, l.nodes, l.nodes_len, set, length, memory + MARGIN, room);
+    gz_image_reply r = d->function(l.tree, l.tree_len, l.query, l.query_len, l.columns, l.nodes, l.nodes_len, set, length, memory + MARGIN, room);
     expect(r.number == number && r.place == place, d->name, what, "reply");
+    expect(r.count == ones(result), d->name, what, "count");
     expect(memcmp(memory, wanted, sizeof memory) == 0, d->name, what, "buffer");
 }
 
@@ -205,6 +217,22 @@ static void images(void)
         image(d, "a byte of 2", all_following, "110221", 6, 19, 3, "");
         image(d, "room for 5 bytes", all_following, "111111", 5, 20, 0, "");
         image(d, "a bad set and no room", all_following, "111112", 0, 19, 5, "");
+    }
+}
+
+/* Every count that there can be, in a tree as large as it may be: a root and 255 children. */
+static void counts(void)
+{
+    const uint16_t flat[2 * 256] = {65535, 0};
+    struct lent self = ON(SLICE(flat), NUMBERS(0, 0, 0, 65535), 0, NOTHING);
+    for (int first = 0; first <= 256; first++) {
+        char front[257] = "", rest[257] = "";
+        for (int node = 0; node < 256; node++) {
+            front[node] = node < first ? '1' : '0';
+            rest[node] = node < first ? '0' : '1';
+        }
+        image(&forwards, "self::* from the first nodes", self, front, 256, 0, 0, front);
+        image(&backwards, "self::* from the other nodes", self, rest, 256, 0, 0, rest);
     }
 }
 
@@ -706,6 +734,7 @@ int main(void)
     trees();
     queries();
     images();
+    counts();
     relations();
     pages();
     names();

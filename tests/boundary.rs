@@ -12,6 +12,14 @@ struct Reply {
 
 #[repr(C)]
 #[derive(Clone, Copy, Debug, PartialEq)]
+struct ImageReply {
+    number: u16,
+    place: u16,
+    count: usize,
+}
+
+#[repr(C)]
+#[derive(Clone, Copy, Debug, PartialEq)]
 struct PageReply {
     number: u16,
     place: u16,
@@ -43,6 +51,7 @@ struct Part {
 }
 
 const _: () = assert!(size_of::<Reply>() == 4 && offset_of!(Reply, place) == 2);
+const _: () = assert!(size_of::<ImageReply>() == 16 && offset_of!(ImageReply, place) == 2 && offset_of!(ImageReply, count) == 8);
 const _: () = assert!(size_of::<PageReply>() == 24 && offset_of!(PageReply, count) == 8 && offset_of!(PageReply, more) == 16);
 const _: () = assert!(size_of::<ReadReply>() == 24 && offset_of!(ReadReply, count) == 8 && offset_of!(ReadReply, columns) == 16);
 const _: () = assert!(size_of::<Cursor>() == 8 && offset_of!(Cursor, last) == 2);
@@ -50,7 +59,7 @@ const _: () = assert!(size_of::<Part>() == 16 && offset_of!(Part, length) == 8);
 
 type Image = unsafe extern "C" fn(
     *const u16, usize, *const u16, usize, u16, *const u16, usize, *const u8, usize, *mut u8, usize,
-) -> Reply;
+) -> ImageReply;
 
 #[link(name = "terminal", kind = "static")]
 extern "C" {
@@ -59,11 +68,11 @@ extern "C" {
     fn gz_forwards(
         tree: *const u16, tree_len: usize, query: *const u16, query_len: usize, columns: u16, nodes: *const u16,
         nodes_len: usize, from: *const u8, from_len: usize, to: *mut u8, to_len: usize,
-    ) -> Reply;
+    ) -> ImageReply;
     fn gz_backwards(
         tree: *const u16, tree_len: usize, query: *const u16, query_len: usize, columns: u16, nodes: *const u16,
         nodes_len: usize, from: *const u8, from_len: usize, to: *mut u8, to_len: usize,
-    ) -> Reply;
+    ) -> ImageReply;
     fn gz_pairs(
         tree: *const u16, tree_len: usize, query: *const u16, query_len: usize, columns: u16, nodes: *const u16,
         nodes_len: usize, table: *mut u8, table_len: usize,
@@ -89,7 +98,7 @@ fn check_query(query: &[u16], columns: u16) -> Reply {
     unsafe { gz_check_query(query.as_ptr(), query.len(), columns) }
 }
 
-fn image(f: Image, query: &[u16], nodes: &[u16], from: &[u8], to: &mut [u8]) -> Reply {
+fn image(f: Image, query: &[u16], nodes: &[u16], from: &[u8], to: &mut [u8]) -> ImageReply {
     let (t, q) = (&WAREHOUSE, query);
     unsafe {
         f(t.as_ptr(), t.len(), q.as_ptr(), q.len(), nodes.len() as u16, nodes.as_ptr(), nodes.len(), from.as_ptr(), from.len(), to.as_mut_ptr(), to.len())
@@ -140,15 +149,17 @@ fn main() {
     assert_eq!(check_query(&PALLETS, 2), ACCEPTED);
     assert_eq!(check_query(&PALLETS, 1), refused(11, 4));
 
+    let found = |count| ImageReply { number: 0, place: 0, count };
+    let no_image = |number, place| ImageReply { number, place, count: 0 };
     let mut set = [7; 8];
-    assert_eq!(image(gz_forwards, &FOLLOWING, &[], &[0, 0, 1, 0, 0, 0], &mut set), ACCEPTED);
+    assert_eq!(image(gz_forwards, &FOLLOWING, &[], &[0, 0, 1, 0, 0, 0], &mut set), found(3));
     assert_eq!(set, [0, 0, 0, 1, 1, 1, 7, 7]);
-    assert_eq!(image(gz_forwards, &FOLLOWING, &[], &[0, 0, 1, 2, 0, 0], &mut set), refused(19, 3));
+    assert_eq!(image(gz_forwards, &FOLLOWING, &[], &[0, 0, 1, 2, 0, 0], &mut set), no_image(19, 3));
     assert_eq!(set, [0, 0, 0, 1, 1, 1, 7, 7]);
-    assert_eq!(image(gz_backwards, &PALLETS, &[1, 3], &[0, 0, 0, 1, 0, 0], &mut set), ACCEPTED);
+    assert_eq!(image(gz_backwards, &PALLETS, &[1, 3], &[0, 0, 0, 1, 0, 0], &mut set), found(1));
     assert_eq!(set, [1, 0, 0, 0, 0, 0, 7, 7]);
-    assert_eq!(image(gz_backwards, &PALLETS, &[1, 6], &[0, 0, 0, 1, 0, 0], &mut set), refused(17, 1));
-    assert_eq!(image(gz_backwards, &FOLLOWING, &[], &[0; 6], &mut set[..5]), refused(20, 0));
+    assert_eq!(image(gz_backwards, &PALLETS, &[1, 6], &[0, 0, 0, 1, 0, 0], &mut set), no_image(17, 1));
+    assert_eq!(image(gz_backwards, &FOLLOWING, &[], &[0; 6], &mut set[..5]), no_image(20, 0));
     assert_eq!(set, [1, 0, 0, 0, 0, 0, 7, 7]);
 
     let mut table = [7; 38];
@@ -208,7 +219,7 @@ fn main() {
     let last_bay = [0, 1, 0, 2, 0, 1, 0, 3, 8, 1, 0, 0, 0, 3, 0, 65535, 8, 3, 0, 0, 9, 4, 0, 0, 10, 2, 5, 0, 5, 0, 6, 0];
     assert_eq!((&query[..32], &query[32..]), (&last_bay[..], &[7; 8][..]));
     assert_eq!(check_query(&query[..32], 0), ACCEPTED);
-    assert_eq!(image(gz_forwards, &query[..32], &[], &[1, 0, 0, 0, 0, 0], &mut set), ACCEPTED);
+    assert_eq!(image(gz_forwards, &query[..32], &[], &[1, 0, 0, 0, 0, 0], &mut set), found(1));
     assert_eq!(set, [0, 0, 0, 0, 1, 0, 7, 7]);
 
     let before = query;

@@ -3,13 +3,13 @@ use Prim.Native.Nat.{ℕ, zero, suc, _<_, _≤_}
 use native.Mathlib.Omega.{arith}
 use mathlib.Core.Path.{_≡_, refl, sym, ap, ap₂, _∙_, subst}
 use mathlib.Core.Logic.{_⊎_}
-use mathlib.Core.Bool.{Bool, true, false, _&&_, and-comm}
+use mathlib.Core.Bool.{Bool, true, false, not, _&&_, and-comm}
 use mathlib.Core.List.{List, [], _∷_}
-use lib.Dec.{ltb}
+use lib.Dec.{ltb, eqb}
 use lib.ListN.{length, take, replicate}
 use borrow.Author.Tests.{lt-ltb}
 use Rattle.model.specs.declared.Cursor.{Cursor}
-use Rattle.model.specs.Sets.{any, tab, memb, upto, image}
+use Rattle.model.specs.Sets.{any, tab, ones, memb, upto, image}
 use Rattle.model.specs.Tree.{sizeOf}
 use Rattle.model.specs.QueryTable.{lastOf}
 use Rattle.model.specs.Results.{related}
@@ -17,6 +17,7 @@ use Rattle.model.specs.Answers.{Row, less, keep, consIf, allRows, satisfied, an
 use Rattle.model.specs.Pages.{rowOf, hasBegun, after}
 use Rattle.model.proofs.Exists.{any-cong, any-swap}
 use Rattle.model.proofs.Bytes.{memb-tab}
+use Rattle.model.proofs.Counts.{ones-front, ones-any}
 use Rattle.model.proofs.Answers.{In, kept-in, all-below}
 use Rattle.sets.specs.NodeSets.{always}
 use Rattle.eval.specs.Evaluation.{reached}
@@ -25,12 +26,13 @@ use Rattle.answers.specs.Search.{rowAt, ahead, Stands}
 use Rattle.answers.proofs.Odometer.{zeros-first}
 use Rattle.answers.proofs.Paging.{in-after}
 
--- one evaluation: the image of all nodes is not empty exactly if the query has a pair
-pub has-pair : (t q row full bytes : List ℕ) (b : Bool) → b ≡ any (sizeOf t) (memb bytes) → bytes ≡ reached t q row (lastOf q) false full
-    → full ≡ tab 256 (upto (sizeOf t) (always true)) → sizeOf t ≤ 256 → b ≡ satisfied t q row
+-- one evaluation: the image of all nodes has some exactly if the query has a pair
+pub has-pair : (t q row full bytes : List ℕ) (k : ℕ) → k ≡ ones bytes → bytes ≡ reached t q row (lastOf q) false full
+    → full ≡ tab 256 (upto (sizeOf t) (always true)) → sizeOf t ≤ 256 → not (eqb k 0) ≡ satisfied t q row
 unfolding satisfied reached image upto
-has-pair t q row full bytes b p r f h =
-    p
+has-pair t q row full bytes k p r f h =
+    ap (λ (j : ℕ). not (eqb j 0)) (p ∙ ones-front (sizeOf t) _ bytes r h)
+    ∙ ones-any (memb bytes) (sizeOf t)
     ∙ ap (λ (z : List ℕ). any n (memb z)) (r ∙ ap (λ (z : List ℕ). tab 256 (λ y. ltb y n && any n (λ x. memb z x && R x y))) f)
     ∙ any-cong n (memb (tab 256 I)) (λ y. any n (λ x. R x y)) at
     ∙ any-swap n n (λ y x. R x y)

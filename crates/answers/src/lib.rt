@@ -76,8 +76,18 @@ fn satisfies(tree: &[u16], prev: &[u16], query: &[u16], k: usize, row: [u16; 3])
 {
     let n = tree.len() / 2;
     let last = query.len() / 4 - 1;
-    let image = eval::path(tree, prev, query, &row[..k], last, false, sets::full(n));
-    sets::occupied(n, image)
+    let mut found = 0;
+    eval::path(
+        tree,
+        prev,
+        query,
+        &row[..k],
+        last,
+        false,
+        sets::full(n),
+        &mut found,
+    );
+    found != 0
 }
 
 // The first answer at or after a spot. One evaluation for each row that is looked at.

@@ -4,6 +4,7 @@ ghost use mathlib.Core.Path.{_≡_};
 ghost use mathlib.Core.Bool.{cond};
 ghost use Prim.Native.Nat.{_*_, _≤_, _<_};
 ghost use lib.ListN.{length};
+ghost use Rattle.model.specs.Sets.{any};
 ghost use Rattle.model.specs.Tree.{sizeOf};
 ghost use Rattle.model.specs.Refusals.{lowest, verdict};
 ghost use Rattle.model.specs.Checks.{badNode, badByte, nodeChecks, cursorChecks, setChecks, roomChecks, tableChecks, imageChecks, pairsChecks, pageChecks};
@@ -81,8 +82,8 @@ fn is_bad_byte(from: &[u8], i: usize) -> bool
     1 < from[i]
 }
 
-// The lowest byte above 1, or the number of bytes. One turn a byte.
-fn lowest_bad_byte(from: &[u8]) -> usize
+// The lowest byte above 1, or the number of bytes, from the first byte on.
+fn find_bad_byte(from: &[u8]) -> usize
     ensures { λ r. ⌜ r ≡ lowest (length (now (from .entry))) (badByte (now (from .entry))) ⌝ }
 {
     let n = from.len();
@@ -94,6 +95,31 @@ fn lowest_bad_byte(from: &[u8]) -> usize
         i += 1;
     }
     n
+}
+
+// Whether some byte is above 1. It goes through all bytes without a branch, so that vector code takes sixteen at a time.
+fn has_bad_byte(from: &[u8]) -> bool
+    ensures { λ r. ⌜ r ≡ any (length (now (from .entry))) (badByte (now (from .entry))) ⌝ }
+{
+    let n = from.len();
+    let mut found = false;
+    let mut i = 0;
+    while i < n {
+        found = is_bad_byte(from, i) | found;
+        i += 1;
+    }
+    found
+}
+
+// The lowest byte above 1, or the number of bytes. It is searched for only where there is one.
+fn lowest_bad_byte(from: &[u8]) -> usize
+    ensures { λ r. ⌜ r ≡ lowest (length (now (from .entry))) (badByte (now (from .entry))) ⌝ }
+{
+    let bad = has_bad_byte(from);
+    if bad {
+        return find_bad_byte(from);
+    }
+    from.len()
 }
 
 // The checks 18 and 19. Places fit a reply where the tree is an accepted one.

@@ -10,7 +10,7 @@ use lib.ListN.{getD}
 use lib.Dec.{ltb}
 use borrow.Author.Tests.{le-ltb}
 use Rattle.model.specs.declared.Entry.{Entry}
-use Rattle.model.specs.Sets.{any, tab, memb, upto, turn, image}
+use Rattle.model.specs.Sets.{any, tab, ones, memb, upto, turn, image}
 use Rattle.model.specs.Tree.{treeOf, sizeOf}
 use Rattle.model.specs.Axes.{steps}
 use Rattle.model.specs.Syntax.{Path, NodeExpr}
@@ -18,15 +18,16 @@ use Rattle.model.specs.Syntax.Path.{step, compose, filter, fromRoot}
 use Rattle.model.specs.Syntax.NodeExpr.{exists, negate, both, either, is}
 use Rattle.model.specs.Meaning.{pairs, holds}
 use Rattle.model.specs.QueryTable.{kind, left, right, tag, entry, entriesOf, pathAt, exprAt}
-use Rattle.model.specs.Checks.{leftPath, leftExpr, rightPath, rightExpr}
+use Rattle.model.specs.Checks.{leftPath, leftExpr, rightPath, rightExpr, namesVariable}
 use Rattle.model.specs.Results.{assigned, related}
-use Rattle.model.proofs.Exists.{any-cong, and-any}
+use Rattle.model.proofs.Exists.{any-cong, any-next, and-any}
 use Rattle.model.proofs.Bytes.{tab-cong, memb-yes, memb-no, memb-tab}
+use Rattle.model.proofs.Counts.{ones-bytes, ones-one}
 use Rattle.model.proofs.QueryTable.{at-step, at-compose, at-union, at-intersect, at-except, at-filter, at-variable, at-root, at-exists, at-negate, at-both, at-either, at-is}
 use Rattle.sets.specs.NodeSets.{always, only, combine, combination}
-use Rattle.sets.proofs.Images.{any-next, memb-upto, upto-cong, only-upto, combine-upto, trim-upto, image-cong, image-turned, image-compose, image-or, image-keep, image-kept, image-all, image-one}
+use Rattle.sets.proofs.Images.{memb-upto, upto-cong, only-upto, combine-upto, trim-upto, image-cong, image-turned, image-compose, image-or, image-keep, image-kept, image-all, image-one}
 use Rattle.eval.specs.Evaluation.{Ready, passing, passed, reached, row, joined, ending}
-use Rattle.eval.proofs.Calls.{left-path, right-path, left-expr, right-expr, path-on-left, path-on-right}
+use Rattle.eval.proofs.Calls.{left-path, right-path, left-expr, right-expr, path-on-left, path-on-right, variable-small}
 
 -- pairs that end in a set
 
@@ -35,9 +36,19 @@ module _ (n : ℕ) (le : n ≤ 256) (back : Bool) (s to o : List ℕ) where
   unfolding image combination combine
   ending-back h m p q r b = rw b (p ∙ upto-cong n le _ _ (λ y l. q ∙ rw r (any-cong n _ _ (λ x k. memb-tab 256 (λ k. memb s k && memb to k) x (omega arith)))))
 
-  pub ending-on : (h : Bool) (m : List ℕ) → o ≡ tab 256 (combination 1 m to) → m ≡ tab 256 (upto n (always h)) → h ≡ any n (memb s) → back ≡ false → o ≡ tab 256 (image n (turn back (ending to)) (memb s))
-  unfolding image
-  ending-on h m p q r b = rw b (p ∙ rw q (trim-upto n le (always h) to ∙ upto-cong n le _ _ (λ y l. rw r (and-any n (memb s) (memb to y)))))
+  -- no node to start from
+  pub ending-none : o ≡ tab 256 (upto 0 (always true)) → (h : Bool) → h ≡ any n (memb s) → h ≡ false → back ≡ false → o ≡ tab 256 (image n (turn back (ending to)) (memb s))
+  unfolding image upto
+  ending-none p h q t b = rw b (p ∙ tab-cong 256 _ _ (λ y l. rw (le-ltb y 0 (omega arith)) (sym (ap (λ (z : Bool). ltb y n && z) (sym (and-any n (memb s) (memb to y)) ∙ rw (sym q ∙ t)) ∙ and-false (ltb y n)))))
+
+  -- some node: the set itself
+  module _ (m : List ℕ) (p : o ≡ tab 256 (combination 1 m to)) (q : m ≡ tab 256 (upto n (always true))) where
+    pub ending-some : (h : Bool) → h ≡ any n (memb s) → h ≡ true → back ≡ false → o ≡ tab 256 (image n (turn back (ending to)) (memb s))
+    unfolding image
+    ending-some h r t b = rw b (p ∙ rw q (trim-upto n le (always true) to ∙ upto-cong n le _ _ (λ y l. sym (sym (and-any n (memb s) (memb to y)) ∙ rw (sym r ∙ t)))))
+
+    pub ending-count : (k : ℕ) → k ≡ ones to → to ≡ tab 256 (upto n (memb to)) → k ≡ ones o
+    ending-count k c below = c ∙ ap ones (below ∙ sym (p ∙ rw q (trim-upto n le (always true) to)))
 
 -- an entry by what it is read as
 
@@ -166,6 +177,16 @@ module _ {t v q nodes : List ℕ} (ok : Ready t v q nodes) (e : ℕ) (b : Bool) 
   unfolding part reached image
   rows-end a x p l h = p ∙ ap (λ (k : ℕ). part t q nodes e b s k) (let g : x ≡ sizeOf t = omega arith in g)
 
+-- the row of a node holds no number that is no node
+pub row-below : {t v q nodes : List ℕ} → Ready t v q nodes → (e : ℕ) (b : Bool) (x : ℕ) (o : List ℕ) → o ≡ row t q nodes e b x → o ≡ tab 256 (upto (sizeOf t) (memb o))
+unfolding row
+row-below {t} {v} {q} {nodes} ok e b x o p =
+    p ∙ upto-cong (sizeOf t) (small ok) _ (memb o) (λ i l. sym (ap (λ (z : List ℕ). memb z i) p ∙ memb-upto (sizeOf t) (small ok) (related t q nodes e b x) i l))
+
+pub rows-count : (t q nodes : List ℕ) (e : ℕ) (b : Bool) (s a : List ℕ) (x k : ℕ) → k ≡ ones (tab 256 (memb a)) → a ≡ part t q nodes e b s x → k ≡ ones a
+unfolding part
+rows-count t q nodes e b s a x k p h = ones-bytes _ a k p h
+
 module _ {t v q nodes : List ℕ} {e : ℕ} {f : Entry} (fe : f ≡ entry q e) (ok : Ready t v q nodes) (em : e < entriesOf q) where
   pub did-operands : (b : Bool) (op : ℕ) (s m n o : List ℕ) → o ≡ tab 256 (combination op m n) → m ≡ reached t q nodes (f .left) b s → n ≡ reached t q nodes (f .right) b s → op ≡ f .kind - 2 → o ≡ joined t q nodes e b s
   unfolding joined
@@ -175,6 +196,9 @@ module _ {t v q nodes : List ℕ} {e : ℕ} {f : Entry} (fe : f ≡ entry q e) (
   did-union b s o p h = p ∙ joined-union ok em b s (rw fe at h)
 
   -- a variable, a path from the root
+
+  pub variable-one : (o : List ℕ) → o ≡ tab 256 (only (assigned nodes (f .left))) → namesVariable (f .kind) ≡ true → 1 ≡ ones o
+  variable-one o p h = ones-one 256 (assigned nodes (f .left)) o p (variable-small fe ok em h)
 
   pub did-variable : (o : List ℕ) → o ≡ tab 256 (only (assigned nodes (f .left))) → assigned nodes (f .left) < sizeOf t → f .kind ≡ 6 → o ≡ row t q nodes e false 0
   unfolding row related pairs

@@ -5,11 +5,14 @@
 // `some` is one backward image of all nodes. Intersect and except go over the start nodes one at a time, O(n) times the
 // cost of their operands, which multiplies where they are nested. Sets travel by value, so that a level of calls takes a
 // few KiB of stack, and a query has at most 64 levels.
+//
+// Each evaluation tells how many nodes its result has, in a number that it is lent: a set is counted where it is made, and one that
+// is handed on keeps its count. What an operand tells is overwritten.
 ghost use mathlib.Core.Path.{_≡_};
 ghost use mathlib.Core.Bool.{false, cond};
 ghost use Prim.Native.Nat.{_≤_, _<_};
 ghost use lib.ListN.{length};
-ghost use Rattle.model.specs.Sets.{tab, memb, turn, image};
+ghost use Rattle.model.specs.Sets.{tab, ones, memb, upto, turn, image};
 ghost use Rattle.model.specs.Results.{assigned};
 ghost use Rattle.sets.specs.NodeSets.{only};
 ghost use Rattle.eval.specs.Evaluation.{Ready, OfKind, passed, reached, row, joined, ending};
@@ -23,19 +26,37 @@ fn variable(nodes: &[u16], k: usize) -> [u8; 256]
     sets::single(x)
 }
 
-// The image under the pairs that end in a set, whatever node they start from. O(n).
-fn ending_image(n: usize, to: [u8; 256], back: bool, from: [u8; 256]) -> [u8; 256]
-    requires { ⌜ n ≤ 256 ⌝ }
-    ensures { λ r. ⌜ r ≡ tab 256 (image n (turn back (ending to)) (memb from)) ⌝ }
+// The image under the pairs that end in a set, whatever node they start from. Forwards it is that set, and its count stays as it was
+// lent, if there is a node to start from; backwards it is all nodes, if the set has one of those to be reached. O(n).
+fn ending_image(
+    n: usize,
+    to: [u8; 256],
+    back: bool,
+    from: [u8; 256],
+    count: &mut usize,
+) -> [u8; 256]
+    requires { ⌜ (n ≤ 256) × ((to ≡ tab 256 (upto n (memb to))) × (now count ≡ ones to)) ⌝ }
+    ensures { λ r.
+        ⌜
+        (r ≡ tab 256 (image n (turn back (ending to)) (memb from)))
+        × (now (count .exit) ≡ ones r)
+        ⌝ }
 {
     if back {
         let hits = sets::combined(sets::INTERSECTION, from, to);
         let hit = sets::occupied(n, hits);
-        return sets::full_if(hit, n);
+        let all = sets::full_if(hit, n);
+        *count = sets::count_of(all);
+        return all;
     }
     let some = sets::occupied(n, from);
-    let all = sets::full_if(some, n);
-    sets::combined(sets::INTERSECTION, all, to)
+    if some {
+        // The set made anew: returned as it was lent, it would be moved by memmove, which the archive has no other need of.
+        let all = sets::full(n);
+        return sets::combined(sets::INTERSECTION, all, to);
+    }
+    *count = 0;
+    sets::full(0)
 }
 
 // x if b, else y.
@@ -55,46 +76,62 @@ pub fn path(
     e: usize,
     back: bool,
     from: [u8; 256],
+    count: &mut usize,
 ) -> [u8; 256]
     requires { ⌜ Ready (now tree) (now prev) (now query) (now nodes) × OfKind (now query) e 0 7 ⌝ }
-    ensures { λ r. ⌜ r ≡ reached (now (tree .entry)) (now (query .entry)) (now (nodes .entry)) e back from ⌝ }
+    ensures { λ r.
+        ⌜
+        (r ≡ reached (now (tree .entry)) (now (query .entry)) (now (nodes .entry)) e back from)
+        × (now (count .exit) ≡ ones r)
+        ⌝ }
 {
     let f = query::entry_at(query, e);
     let k = f.kind;
     let l = f.left;
     let r = f.right;
     if k == 0 {
-        return steps::step(tree, prev, l, f.tag, back, from);
+        return steps::step(tree, prev, l, f.tag, back, from, count);
     }
     if k == 1 {
         let first = choose(back, r, l);
         let second = choose(back, l, r);
-        let m = path(tree, prev, query, nodes, first, back, from);
-        return path(tree, prev, query, nodes, second, back, m);
+        let m = path(tree, prev, query, nodes, first, back, from, count);
+        return path(tree, prev, query, nodes, second, back, m, count);
     }
     if k == 2 {
-        return operands(tree, prev, query, nodes, e, back, from);
+        return operands(tree, prev, query, nodes, e, back, from, count);
     }
     if k < 5 {
-        return by_rows(tree, prev, query, nodes, e, back, from);
+        return by_rows(tree, prev, query, nodes, e, back, from, count);
     }
     if k == 5 {
-        let s = node(tree, prev, query, nodes, r);
+        let s = node(tree, prev, query, nodes, r, count);
         if back {
             let m = sets::combined(sets::INTERSECTION, from, s);
-            return path(tree, prev, query, nodes, l, back, m);
+            return path(tree, prev, query, nodes, l, back, m, count);
         }
-        let m = path(tree, prev, query, nodes, l, back, from);
-        return sets::combined(sets::INTERSECTION, m, s);
+        let m = path(tree, prev, query, nodes, l, back, from, count);
+        return sets::combined_counted(sets::INTERSECTION, m, s, count);
     }
-    let to = ends(tree, prev, query, nodes, e);
-    ending_image(tree.len() / 2, to, back, from)
+    let to = ends(tree, prev, query, nodes, e, count);
+    ending_image(tree.len() / 2, to, back, from, count)
 }
 
 // The nodes where the node expression at entry e holds.
-pub fn node(tree: &[u16], prev: &[u16], query: &[u16], nodes: &[u16], e: usize) -> [u8; 256]
+pub fn node(
+    tree: &[u16],
+    prev: &[u16],
+    query: &[u16],
+    nodes: &[u16],
+    e: usize,
+    count: &mut usize,
+) -> [u8; 256]
     requires { ⌜ Ready (now tree) (now prev) (now query) (now nodes) × OfKind (now query) e 8 12 ⌝ }
-    ensures { λ r. ⌜ r ≡ passed (now (tree .entry)) (now (query .entry)) (now (nodes .entry)) e ⌝ }
+    ensures { λ r.
+        ⌜
+        (r ≡ passed (now (tree .entry)) (now (query .entry)) (now (nodes .entry)) e)
+        × (now (count .exit) ≡ ones r)
+        ⌝ }
 {
     let n = tree.len() / 2;
     let f = query::entry_at(query, e);
@@ -103,22 +140,23 @@ pub fn node(tree: &[u16], prev: &[u16], query: &[u16], nodes: &[u16], e: usize) 
     let r = f.right;
     if k == 8 {
         let all = sets::full(n);
-        return path(tree, prev, query, nodes, l, true, all);
+        return path(tree, prev, query, nodes, l, true, all, count);
     }
     if k == 9 {
         let all = sets::full(n);
-        let a = node(tree, prev, query, nodes, l);
-        return sets::combined(sets::DIFFERENCE, all, a);
+        let a = node(tree, prev, query, nodes, l, count);
+        return sets::combined_counted(sets::DIFFERENCE, all, a, count);
     }
     if k == 12 {
+        *count = 1;
         return variable(nodes, l);
     }
-    let a = node(tree, prev, query, nodes, l);
-    let b = node(tree, prev, query, nodes, r);
+    let a = node(tree, prev, query, nodes, l, count);
+    let b = node(tree, prev, query, nodes, r, count);
     if k == 10 {
-        return sets::combined(sets::INTERSECTION, a, b);
+        return sets::combined_counted(sets::INTERSECTION, a, b, count);
     }
-    sets::combined(sets::UNION, a, b)
+    sets::combined_counted(sets::UNION, a, b, count)
 }
 
 // What a set reaches by each operand of a union, intersect or except, combined so. For a union that is what the set
@@ -131,18 +169,23 @@ fn operands(
     e: usize,
     back: bool,
     from: [u8; 256],
+    count: &mut usize,
 ) -> [u8; 256]
     requires { ⌜ Ready (now tree) (now prev) (now query) (now nodes) × OfKind (now query) e 2 4 ⌝ }
-    ensures { λ r. ⌜ r ≡ joined (now (tree .entry)) (now (query .entry)) (now (nodes .entry)) e back from ⌝ }
+    ensures { λ r.
+        ⌜
+        (r ≡ joined (now (tree .entry)) (now (query .entry)) (now (nodes .entry)) e back from)
+        × (now (count .exit) ≡ ones r)
+        ⌝ }
 {
     let f = query::entry_at(query, e);
     let k = f.kind;
     let l = f.left;
     let r = f.right;
-    let a = path(tree, prev, query, nodes, l, back, from);
-    let b = path(tree, prev, query, nodes, r, back, from);
+    let a = path(tree, prev, query, nodes, l, back, from, count);
+    let b = path(tree, prev, query, nodes, r, back, from, count);
     let op = (k - 2) as u8;
-    sets::combined(op, a, b)
+    sets::combined_counted(op, a, b, count)
 }
 
 // An intersect or except, one start node after the other.
@@ -154,9 +197,14 @@ fn by_rows(
     e: usize,
     back: bool,
     from: [u8; 256],
+    count: &mut usize,
 ) -> [u8; 256]
     requires { ⌜ Ready (now tree) (now prev) (now query) (now nodes) × OfKind (now query) e 3 4 ⌝ }
-    ensures { λ r. ⌜ r ≡ reached (now (tree .entry)) (now (query .entry)) (now (nodes .entry)) e back from ⌝ }
+    ensures { λ r.
+        ⌜
+        (r ≡ reached (now (tree .entry)) (now (query .entry)) (now (nodes .entry)) e back from)
+        × (now (count .exit) ≡ ones r)
+        ⌝ }
 {
     let n = tree.len() / 2;
     let mut found = sets::full(0);
@@ -164,26 +212,39 @@ fn by_rows(
     while x < n {
         if from[x] != 0 {
             let s = sets::single(x);
-            let row = operands(tree, prev, query, nodes, e, back, s);
+            let row = operands(tree, prev, query, nodes, e, back, s, count);
             let next = sets::combined(sets::UNION, found, row);
             found = next;
         }
         x += 1;
     }
+    *count = sets::count_of(found);
     found
 }
 
 // The nodes at which a variable or a path from the root ends, from any start.
-fn ends(tree: &[u16], prev: &[u16], query: &[u16], nodes: &[u16], e: usize) -> [u8; 256]
+fn ends(
+    tree: &[u16],
+    prev: &[u16],
+    query: &[u16],
+    nodes: &[u16],
+    e: usize,
+    count: &mut usize,
+) -> [u8; 256]
     requires { ⌜ Ready (now tree) (now prev) (now query) (now nodes) × OfKind (now query) e 6 7 ⌝ }
-    ensures { λ r. ⌜ r ≡ row (now (tree .entry)) (now (query .entry)) (now (nodes .entry)) e false 0 ⌝ }
+    ensures { λ r.
+        ⌜
+        (r ≡ row (now (tree .entry)) (now (query .entry)) (now (nodes .entry)) e false 0)
+        × (now (count .exit) ≡ ones r)
+        ⌝ }
 {
     let f = query::entry_at(query, e);
     let k = f.kind;
     let l = f.left;
     if k == 6 {
+        *count = 1;
         return variable(nodes, l);
     }
     let root = sets::single(0);
-    path(tree, prev, query, nodes, l, false, root)
+    path(tree, prev, query, nodes, l, false, root, count)
 }

@@ -1,19 +1,20 @@
 -- From the 256 bytes of a node set to what a service writes: the front of a buffer, and a relation's table row after row.
-use Prim.Native.Nat.{ℕ, zero, suc, _+_, _-_, _*_, _<_, _≤_}
-use native.Mathlib.Nat.{mul-le-mul-right, add-zero, add-suc}
+use Prim.Native.Nat.{ℕ, _+_, _-_, _*_, _<_, _≤_}
+use native.Mathlib.Nat.{mul-le-mul-right}
 use native.Mathlib.Omega.{arith}
 use mathlib.Core.Path.{_≡_, sym, ap, _∙_}
 use mathlib.Core.Bool.{Bool, false}
-use mathlib.Core.List.{List, [], _∷_, _++_, append-assoc, append-nil}
+use mathlib.Core.List.{List, _++_, append-assoc, append-nil}
 use lib.ListN.{length, take, drop, length-drop, drop-of-length-le}
 use lib.Seq.{take-at, take-all, drop-at, drop-drop}
 use Rattle.model.specs.declared.Reply.{Reply}
-use Rattle.model.specs.Sets.{bit, tab, memb, upto}
+use Rattle.model.specs.Sets.{tab, ones, memb, upto, image}
 use Rattle.model.specs.Tree.{sizeOf}
 use Rattle.model.specs.QueryTable.{lastOf}
 use Rattle.model.specs.Results.{related, imageBytes, cell, pairsBytes}
 use Rattle.model.specs.Refusals.{written}
-use Rattle.model.proofs.Bytes.{tab-snoc, tab-cong, length-tab, length-over, tab-front, row-fits, cell-at}
+use Rattle.model.proofs.Bytes.{tab-append, tab-cong, length-tab, length-over, tab-front, row-fits, cell-at}
+use Rattle.model.proofs.Counts.{ones-front}
 use Rattle.model.proofs.Refusals.{written-over}
 use Rattle.sets.specs.NodeSets.{only}
 use Rattle.sets.proofs.Images.{memb-upto, image-one, image-from}
@@ -33,6 +34,13 @@ pub image-front : (t q nodes : List ℕ) (back : Bool) (from s r to after : List
     → after ≡ imageBytes t q nodes back from ++ drop (sizeOf t) to
 image-front t q nodes back from s r to after p a c l fits = p ∙ ap (λ (x : List ℕ). x ++ drop (sizeOf t) to) (front t q nodes back from s r a c l fits)
 
+-- the count of the 256 bytes is that of the front
+pub image-counted : (t q nodes : List ℕ) (back : Bool) (from s r : List ℕ) (k : ℕ) → k ≡ ones r
+    → r ≡ reached t q nodes (lastOf q) back s → s ≡ tab 256 (upto (length from) (memb from)) → length from ≡ sizeOf t → sizeOf t ≤ 256
+    → k ≡ ones (imageBytes t q nodes back from)
+unfolding reached image
+image-counted t q nodes back from s r k p a c l fits = p ∙ ones-front (sizeOf t) _ r a fits ∙ ap ones (front t q nodes back from s r a c l fits)
+
 pub image-over : (t q nodes : List ℕ) (back : Bool) (from to after : List ℕ) (r v : Reply) → after ≡ imageBytes t q nodes back from ++ drop (sizeOf t) to → r ≡ v → r .number ≡ 0
     → after ≡ written v (imageBytes t q nodes back from) to
 unfolding imageBytes
@@ -51,16 +59,6 @@ put-back a n xs ys r p =
     ap (λ (l : List ℕ). take a xs ++ (ys ++ l)) (drop-of-length-le (drop a xs) h) ∙ ap (λ (l : List ℕ). take a xs ++ l) (append-nil ys ∙ u)
 
 -- the rows of a table
-
-tab-append : (a n : ℕ) (S : ℕ → Bool) → tab (a + n) S ≡ tab a S ++ tab n (λ k. S (a + k))
-unfolding tab
-tab-append a zero S = rw (add-zero a) (sym (append-nil (tab a S)))
-tab-append a (suc n) S =
-    rw (add-suc a n)
-    (tab-snoc (a + n) S
-    ∙ ap (λ (l : List ℕ). l ++ (bit (S (a + n)) ∷ [])) (tab-append a n S)
-    ∙ append-assoc (tab a S) (tab n (λ k. S (a + k))) (bit (S (a + n)) ∷ [])
-    ∙ ap (λ (l : List ℕ). tab a S ++ l) (sym (tab-snoc n (λ k. S (a + k)))))
 
 module _ (n x at : ℕ) (e : at ≡ x * n) where
   module _ (R : ℕ → ℕ → Bool) (o l r l′ : List ℕ) where

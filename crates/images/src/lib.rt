@@ -5,7 +5,7 @@ mod write;
 ghost use mathlib.Core.Bool.{true, false};
 ghost use Rattle.model.specs.Services.{ImageLeaves, PairsLeave};
 
-// The image of a node set under the query, or under its converse where back is set.
+// The image of a node set under the query, or under its converse where back is set, and how many nodes it has.
 fn image(
     tree: &[u16],
     query: &[u16],
@@ -14,7 +14,7 @@ fn image(
     back: bool,
     from: &[u8],
     to: &mut [u8],
-) -> model::Reply
+) -> model::ImageReply
     ensures { λ r.
         ⌜
         ImageLeaves (now (tree .entry)) (now (query .entry))
@@ -24,13 +24,14 @@ fn image(
 {
     let v = checks::check_image(tree, query, columns, nodes, from, to.len());
     if v.number != 0 {
-        return v;
+        return model::image_reply(v, 0);
     }
-    write::image_into(tree, query, nodes, back, from, to);
-    v
+    let count = write::image_into(tree, query, nodes, back, from, to);
+    model::image_reply(v, count)
 }
 
-// The nodes that a set reaches by the query. One evaluation: O(entries × n) for a query without intersect and except.
+// The nodes that a set reaches by the query, and how many they are. One evaluation: O(entries × n) for a query without intersect and
+// except.
 pub fn forwards(
     tree: &[u16],
     query: &[u16],
@@ -38,7 +39,7 @@ pub fn forwards(
     nodes: &[u16],
     from: &[u8],
     to: &mut [u8],
-) -> model::Reply
+) -> model::ImageReply
     ensures { λ r.
         ⌜
         ImageLeaves (now (tree .entry)) (now (query .entry))
@@ -49,7 +50,7 @@ pub fn forwards(
     image(tree, query, columns, nodes, false, from, to)
 }
 
-// The nodes that reach a set by the query, at the same cost.
+// The nodes that reach a set by the query, and how many they are, at the same cost.
 pub fn backwards(
     tree: &[u16],
     query: &[u16],
@@ -57,7 +58,7 @@ pub fn backwards(
     nodes: &[u16],
     from: &[u8],
     to: &mut [u8],
-) -> model::Reply
+) -> model::ImageReply
     ensures { λ r.
         ⌜
         ImageLeaves (now (tree .entry)) (now (query .entry))

@@ -4,14 +4,14 @@ ghost use mathlib.Core.Bool.{false};
 ghost use mathlib.Core.List.{_++_};
 ghost use Prim.Native.Nat.{_+_, _-_, _*_, _/_, _≤_, _<_};
 ghost use lib.ListN.{length, take, drop};
-ghost use Rattle.model.specs.Sets.{tab, memb, upto};
+ghost use Rattle.model.specs.Sets.{tab, ones, memb, upto};
 ghost use Rattle.model.specs.Tree.{sizeOf};
 ghost use Rattle.model.specs.QueryTable.{lastOf};
 ghost use Rattle.model.specs.Results.{related, imageBytes, pairsBytes};
 ghost use Rattle.steps.specs.Moves.{Linked};
 ghost use Rattle.images.specs.Tables.{Tables};
 
-// The image of a node set under the query, or under its converse where back is set.
+// The image of a node set under the query, or under its converse where back is set, and how many nodes it has.
 pub fn image_into(
     tree: &[u16],
     query: &[u16],
@@ -19,22 +19,34 @@ pub fn image_into(
     back: bool,
     from: &[u8],
     to: &mut [u8],
-)
+) -> usize
     requires { ⌜
         Tables (now tree) (now query) (now nodes)
         × ((length (now from) ≡ sizeOf (now tree)) × (sizeOf (now tree) ≤ length (now to)))
         ⌝ }
-    ensures { λ _.
+    ensures { λ r.
         ⌜
-        now (to .exit)
+        (r ≡ ones (imageBytes (now (tree .entry)) (now (query .entry)) (now (nodes .entry)) back (now (from .entry))))
+        × (now (to .exit)
         ≡ imageBytes (now (tree .entry)) (now (query .entry)) (now (nodes .entry)) back (now (from .entry))
-        ++ drop (sizeOf (now (tree .entry))) (now (to .entry))
+        ++ drop (sizeOf (now (tree .entry))) (now (to .entry)))
         ⌝ }
 {
     let s = sets::load(from);
     let prev = tree::previous_siblings(tree);
-    let r = eval::path(tree, &prev, query, nodes, query.len() / 4 - 1, back, s);
+    let mut count = 0;
+    let r = eval::path(
+        tree,
+        &prev,
+        query,
+        nodes,
+        query.len() / 4 - 1,
+        back,
+        s,
+        &mut count,
+    );
     sets::put(to, r, tree.len() / 2);
+    count
 }
 
 // The first n bytes from a place on become the set's; the others stay.
@@ -60,7 +72,17 @@ fn row(tree: &[u16], prev: &[u16], query: &[u16], nodes: &[u16], x: usize) -> [u
         ⌝ }
 {
     let s = sets::single(x);
-    eval::path(tree, prev, query, nodes, query.len() / 4 - 1, false, s)
+    let mut count = 0;
+    eval::path(
+        tree,
+        prev,
+        query,
+        nodes,
+        query.len() / 4 - 1,
+        false,
+        s,
+        &mut count,
+    )
 }
 
 // All pairs of the query, row after row. A row's start is carried along by adding n, so that no product finds a place: there are

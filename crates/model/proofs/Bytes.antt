@@ -1,11 +1,11 @@
 -- Laws of sets as bytes, and of the loops that fill them.
 use Prim.Native.Nat.{ℕ, zero, suc, _+_, _*_, _/_, _%_, _≤_, _<_}
-use native.Mathlib.Nat.{not-suc-le-zero, le-of-suc-le-suc, suc-mul, mul-le-mul-right, mul-add-div-right, mul-add-mod-self-right, mod-eq-of-lt, div-eq-of-lt, add-zero}
+use native.Mathlib.Nat.{not-suc-le-zero, le-of-suc-le-suc, suc-mul, mul-le-mul-right, mul-add-div-right, mul-add-mod-self-right, mod-eq-of-lt, div-eq-of-lt, add-zero, add-suc}
 use native.Mathlib.Numerals.{add-one}
 use native.Mathlib.Omega.{arith}
 use mathlib.Core.Path.{_≡_, refl, sym, ap, _∙_}
 use mathlib.Core.Bool.{Bool, true, false, not, _&&_, and-comm}
-use mathlib.Core.List.{List, [], _∷_, _++_, append-assoc}
+use mathlib.Core.List.{List, [], _∷_, _++_, append-assoc, append-nil}
 use lib.ListN.{length, getD, set, drop, replicate, length-append, length-drop, length-set, length-replicate, getD-replicate}
 use lib.Seq.{ext-getD, getD-set-same, getD-set-other, set-at, drop-cons}
 use lib.Dec.{ltb, eqb}
@@ -118,6 +118,17 @@ pub tab-snoc : (n : ℕ) (S : ℕ → Bool) → tab (suc n) S ≡ tab n S ++ (bi
 unfolding tab
 tab-snoc zero S = refl
 tab-snoc (suc n) S = ap (λ (l : List ℕ). bit (S zero) ∷ l) (tab-snoc n (λ k. S (suc k)))
+
+-- the bytes of two parts
+pub tab-append : (a n : ℕ) (S : ℕ → Bool) → tab (a + n) S ≡ tab a S ++ tab n (λ k. S (a + k))
+unfolding tab
+tab-append a zero S = rw (add-zero a) (sym (append-nil (tab a S)))
+tab-append a (suc n) S =
+    rw (add-suc a n)
+    (tab-snoc (a + n) S
+    ∙ ap (λ (l : List ℕ). l ++ (bit (S (a + n)) ∷ [])) (tab-append a n S)
+    ∙ append-assoc (tab a S) (tab n (λ k. S (a + k))) (bit (S (a + n)) ∷ [])
+    ∙ ap (λ (l : List ℕ). tab a S ++ l) (sym (tab-snoc n (λ k. S (a + k)))))
 
 -- a loop that writes numbers over the front of a list d; after i turns they are F i
 module _ (F : ℕ → List ℕ) (d l : List ℕ) (i : ℕ) (p : l ≡ F i ++ drop i d) where

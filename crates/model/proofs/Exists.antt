@@ -56,6 +56,19 @@ any-miss i f b p e q = any-more i f p (sym e ∙ q)
 pub any-end : (n i : ℕ) (f : ℕ → Bool) → any i f ≡ false → i ≤ n → n ≤ i → any n f ≡ false
 any-end n i f p l h = ap (λ (k : ℕ). any k f) (let e : n ≡ i = omega arith in e) ∙ p
 
+-- a search that goes through all numbers
+
+pub any-next : (i : ℕ) (f : ℕ → Bool) (b : Bool) → b ≡ any i f → (f i || b) ≡ any (i + 1) f
+unfolding any
+any-next i f b p = rw (add-one i, p)
+
+-- the same with the test's flag
+pub any-seen : (i : ℕ) (f : ℕ → Bool) (b r : Bool) → b ≡ any i f → r ≡ f i → (r || b) ≡ any (i + 1) f
+any-seen i f b r p q = rw q (any-next i f b p)
+
+pub any-whole : (n i : ℕ) (f : ℕ → Bool) (b : Bool) → b ≡ any i f → i ≤ n → n ≤ i → b ≡ any n f
+any-whole n i f b p l h = p ∙ ap (λ (k : ℕ). any k f) (let e : i ≡ n = omega arith in e)
+
 -- any with Booleans
 
 pub and-any : (n : ℕ) (f : ℕ → Bool) (b : Bool) → (any n f && b) ≡ any n (λ x. f x && b)
@@ -101,6 +114,10 @@ pub lowest-none : (n : ℕ) (f : ℕ → Bool) → any n f ≡ false → lowest 
 unfolding lowest any
 lowest-none zero f h = refl
 lowest-none (suc n) f h = let w = no-or (f n) (any n f) h in rw (w .0, w .1)
+
+-- the same with the test's flag
+pub lowest-unless : (n : ℕ) (f : ℕ → Bool) (b : Bool) → b ≡ any n f → b ≡ false → n ≡ lowest n f
+lowest-unless n f b e p = sym (lowest-none n f (sym e ∙ p))
 
 pub lowest-at : (n x : ℕ) (f : ℕ → Bool) → any x f ≡ false → f x ≡ true → x < n → lowest n f ≡ x
 unfolding lowest

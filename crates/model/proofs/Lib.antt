@@ -1,6 +1,7 @@
 pub mod Booleans
 pub mod Exists
 pub mod Bytes
+pub mod Counts
 pub mod Refusals
 pub mod Axes
 pub mod Meaning

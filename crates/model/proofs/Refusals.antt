@@ -4,12 +4,13 @@ use native.Mathlib.Omega.{arith}
 use mathlib.Core.Path.{_≡_, refl, sym, ap, _∙_}
 use mathlib.Core.Bool.{Bool, true, false, cond, _&&_}
 use mathlib.Core.List.{List, [], _∷_, _++_}
-use lib.Dec.{ltb}
+use lib.Dec.{ltb, eqb}
 use lib.ListN.{length, drop}
 use borrow.Author.Tests.{le-ltb, eq-eqb, ne-eqb}
 use Rattle.model.specs.Sets.{any}
-use Rattle.model.specs.Refusals.{Check, lowest, refuseHere, refuseAt, reply, verdict, written}
+use Rattle.model.specs.Refusals.{Check, lowest, refuseHere, refuseAt, reply, counting, verdict, written}
 use Rattle.model.specs.declared.Reply.{Reply}
+use Rattle.model.specs.declared.ImageReply.{ImageReply}
 use Rattle.model.proofs.Booleans.{no-yes, yes-left, yes-right}
 use Rattle.model.proofs.Exists.{any-end, lowest-at, lowest-none, lowest-found, lowest-past}
 
@@ -110,6 +111,19 @@ none-refused (c ∷ cs) w = rw (w .0) (none-refused cs (w .1))
 
 pub all-pass : (cs : List Check) → Passes cs → verdict cs .number ≡ 0
 all-pass cs w = ap (λ (r : Reply). r .number) (none-refused cs w)
+
+-- the reply of a call that counts: 0 where it is refused
+
+module _ (r : ImageReply) (v w : Reply) (same : v ≡ w) where
+  pub counts-none : (k : ℕ) → r ≡ counting v 0 → (v .number ≡ 0 → ⊥) → r ≡ counting w (cond (eqb (w .number) 0) k 0)
+  counts-none k p z =
+      p ∙ ap (λ (u : Reply). counting u 0) same
+      ∙ rw (ne-eqb (w .number) 0 (λ h. z (ap (λ (u : Reply). u .number) same ∙ h)))
+
+  pub counts-some : (j k : ℕ) → r ≡ counting v j → j ≡ k → v .number ≡ 0 → r ≡ counting w (cond (eqb (w .number) 0) k 0)
+  counts-some j k p e z =
+      p ∙ ap (λ (u : Reply). counting u j) same
+      ∙ rw (eq-eqb (w .number) 0 (sym (ap (λ (u : Reply). u .number) same) ∙ z), e)
 
 -- the buffer after a call
 

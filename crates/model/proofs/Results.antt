@@ -2,17 +2,17 @@
 -- leaves as it was.
 use Prim.Native.Nat.{ℕ, _+_, _*_, _≤_, _<_}
 use native.Mathlib.Omega.{arith}
-use mathlib.Core.Path.{_≡_, refl, sym}
+use mathlib.Core.Path.{_≡_, refl, sym, ap, _∙_}
 use mathlib.Core.Logic.{_⊎_, _↔_, Iff·trans}
 use mathlib.Core.Bool.{Bool, true, false, _&&_}
 use mathlib.Core.List.{List, _++_}
 use lib.Dec.{ltb, eqb}
-use lib.ListN.{length, getD, drop, length-append, length-drop, List·getD-append}
-use lib.Seq.{drop-at}
-use borrow.Author.Tests.{ltb-false, lt-ltb, eqb-true, not-false}
+use lib.ListN.{length, getD, take, drop, length-append, length-drop, List·getD-append}
+use lib.Seq.{take-at, drop-at}
+use borrow.Author.Tests.{ltb-false, lt-ltb, eqb-true, not-false, ne-eqb}
 use Rattle.model.specs.declared.Reply.{Reply}
 use Rattle.model.specs.declared.Cursor.{Cursor}
-use Rattle.model.specs.Sets.{bit, any, tab, memb, upto, turn, image}
+use Rattle.model.specs.Sets.{bit, any, tab, ones, memb, upto, turn, image}
 use Rattle.model.specs.Tree.{sizeOf, treeOf}
 use Rattle.model.specs.Meaning.{pairs}
 use Rattle.model.specs.QueryTable.{pathAt, lastOf}
@@ -20,10 +20,11 @@ use Rattle.model.specs.Results.{assigned, related, imageBytes, cell, pai
 use Rattle.model.specs.Pages.{unpaged}
 use Rattle.model.specs.Refusals.{verdict, written}
 use Rattle.model.specs.Checks.{treeChecks, queryChecks, nodeChecks, badByte, setChecks, roomChecks, tableChecks, imageChecks, pairsChecks, pageChecks}
-use Rattle.model.specs.Services.{imageReply, imageBuffer, pairsReply, pairsBuffer, pageOutcome}
+use Rattle.model.specs.Services.{imageVerdict, imageReply, imageBuffer, pairsReply, pairsBuffer, pageOutcome}
 use Rattle.model.proofs.Booleans.{Seen, yes!, no!, seen, no-yes, both-yes, yes-right}
 use Rattle.model.proofs.Exists.{any-both, none-of}
 use Rattle.model.proofs.Bytes.{length-tab, getD-tab, memb-yes, memb-no, row-fits, cell-at}
+use Rattle.model.proofs.Counts.{ones-within}
 use Rattle.model.proofs.Refusals.{Passes, numbered, accepted, Passes-front, written-not}
 
 -- A buffer whose front is written with the bytes of a test.
@@ -78,7 +79,7 @@ module _ (n : ℕ) (R : ℕ → ℕ → Bool) (s : List ℕ) (low : (x : ℕ) �
 
 -- A call of forwards or backwards that is accepted.
 
-module _ (t q : List ℕ) (columns : ℕ) (nodes from to : List ℕ) (ok : imageReply t q columns nodes from to .number ≡ 0) where
+module _ (t q : List ℕ) (columns : ℕ) (nodes from to : List ℕ) (ok : imageVerdict t q columns nodes from to .number ≡ 0) where
   fitting : Passes (setChecks t from ++ roomChecks (length to) (sizeOf t))
   unfolding imageChecks tableChecks treeChecks queryChecks nodeChecks setChecks roomChecks numbered
   fitting =
@@ -98,7 +99,7 @@ module _ (t q : List ℕ) (columns : ℕ) (nodes from to : List ℕ) (ok : image
   unfolding imageBytes related
   image-byte back y l =
       Iff·trans
-      (byte-one (imageReply t q columns nodes from to) (sizeOf t) (image (sizeOf t) (related t q nodes (lastOf q) back) (memb from)) to ok y l)
+      (byte-one (imageVerdict t q columns nodes from to) (sizeOf t) (image (sizeOf t) (related t q nodes (lastOf q) back) (memb from)) to ok y l)
       (image-of (sizeOf t) (related t q nodes (lastOf q) back) from low-bytes y l)
 
   -- forwards: byte y is 1 exactly if some x of the set has the pair (x, y)
@@ -118,7 +119,7 @@ module _ (t q : List ℕ) (columns : ℕ) (nodes from to : List ℕ) (ok : image
     pub image-either : (y : ℕ) → y < sizeOf t
         → (getD (imageBuffer t q columns nodes back from to) y 0 ≡ 0) ⊎ (getD (imageBuffer t q columns nodes back from to) y 0 ≡ 1)
     unfolding imageBytes
-    image-either y l = byte-either (imageReply t q columns nodes from to) (sizeOf t) (image (sizeOf t) (related t q nodes (lastOf q) back) (memb from)) to ok y l
+    image-either y l = byte-either (imageVerdict t q columns nodes from to) (sizeOf t) (image (sizeOf t) (related t q nodes (lastOf q) back) (memb from)) to ok y l
 
     -- a set of zeros gives zeros, either way
     pub image-zeros : ((x : ℕ) → x < sizeOf t → getD from x 0 ≡ 0) → (y : ℕ) → y < sizeOf t → getD (imageBuffer t q columns nodes back from to) y 0 ≡ 0
@@ -128,11 +129,29 @@ module _ (t q : List ℕ) (columns : ℕ) (nodes from to : List ℕ) (ok : image
         go (_⊎_.inl e) = e
         go (_⊎_.inr e) = let (x, k, p, r) = image-byte back y l .0 e in let z : getD from x 0 ≡ 0 = none x k in absurd (omega arith)
 
+    -- the count is the number of 1 bytes in the result, and at most n
+    pub image-count : (imageReply t q columns nodes back from to .count ≡ ones (take (sizeOf t) (imageBuffer t q columns nodes back from to)))
+        × (imageReply t q columns nodes back from to .count ≤ sizeOf t)
+    unfolding imageBytes
+    image-count = (
+      counted ∙ ap ones (sym (ap (λ (l : List ℕ). take (sizeOf t) l) written-front ∙ take-at (tab (sizeOf t) S) (drop (sizeOf t) to) (sizeOf t) (length-tab (sizeOf t) S))),
+      ones-within S (sizeOf t) _ counted,
+    )
+      where
+        S : ℕ → Bool
+        S = image (sizeOf t) (related t q nodes (lastOf q) back) (memb from)
+
+        counted : imageReply t q columns nodes back from to .count ≡ ones (tab (sizeOf t) S)
+        counted = rw ok
+
+        written-front : imageBuffer t q columns nodes back from to ≡ tab (sizeOf t) S ++ drop (sizeOf t) to
+        written-front = front (imageVerdict t q columns nodes from to) (sizeOf t) S to ok
+
     -- the bytes from n on are as they were lent, and the buffer is as long as it was
     pub image-rest : (drop (sizeOf t) (imageBuffer t q columns nodes back from to) ≡ drop (sizeOf t) to) × (length (imageBuffer t q columns nodes back from to) ≡ length to)
     unfolding imageBytes setChecks roomChecks Passes
     image-rest =
-        rest-kept (imageReply t q columns nodes from to) (sizeOf t) (image (sizeOf t) (related t q nodes (lastOf q) back) (memb from)) to ok
+        rest-kept (imageVerdict t q columns nodes from to) (sizeOf t) (image (sizeOf t) (related t q nodes (lastOf q) back) (memb from)) to ok
         (ltb-false (length to) (sizeOf t) (fitting .1 .1 .0))
 
 -- A call of pairs that is accepted.
@@ -166,13 +185,15 @@ module _ (t q : List ℕ) (columns : ℕ) (nodes table : List ℕ) (ok : pairsRe
 
 -- Calls that are refused.
 
--- a refused call of forwards or backwards leaves the buffer as it was lent
-pub image-refused : (t q : List ℕ) (columns : ℕ) (nodes : List ℕ) (back : Bool) (from to : List ℕ) → (imageReply t q columns nodes from to .number ≡ 0 → ⊥)
-    → imageBuffer t q columns nodes back from to ≡ to
-image-refused t q columns nodes back from to z =
-    sym (written-not (imageReply t q columns nodes from to) (imageReply t q columns nodes from to) (imageBytes t q nodes back from) to refl z)
+-- a refused call of forwards or backwards counts no node, and leaves the buffer as it was lent
+pub image-refused : (t q : List ℕ) (columns : ℕ) (nodes : List ℕ) (back : Bool) (from to : List ℕ) → (imageVerdict t q columns nodes from to .number ≡ 0 → ⊥)
+    → (imageReply t q columns nodes back from to .count ≡ 0) × (imageBuffer t q columns nodes back from to ≡ to)
+image-refused t q columns nodes back from to z = (
+  rw (ne-eqb (imageVerdict t q columns nodes from to .number) 0 z),
+  sym (written-not (imageVerdict t q columns nodes from to) (imageVerdict t q columns nodes from to) (imageBytes t q nodes back from) to refl z),
+)
 
--- so does a refused call of pairs
+-- a refused call of pairs leaves the buffer as it was lent
 pub pairs-refused : (t q : List ℕ) (columns : ℕ) (nodes table : List ℕ) → (pairsReply t q columns nodes table .number ≡ 0 → ⊥)
     → pairsBuffer t q columns nodes table ≡ table
 pairs-refused t q columns nodes table z =

@@ -5,6 +5,7 @@ use mathlib.Core.List.{List, [], _∷_, _++_}
 use lib.ListN.{length, drop}
 use lib.Dec.{eqb}
 use Rattle.model.specs.declared.Reply.{Reply}
+use Rattle.model.specs.declared.ImageReply.{ImageReply}
 use Rattle.model.specs.Sets.{any}
 
 -- the least number below n that passes f, or n
@@ -33,6 +34,10 @@ refuseAt k n f = record { number = k; fails = any n f; place = lowest n f }
 -- the reply of a number and a place
 abbrev pub reply : ℕ → ℕ → Reply
 reply k p = record { number = k; place = p }
+
+-- the reply of a verdict and a count
+abbrev pub counting : Reply → ℕ → ImageReply
+counting v count = record { number = v .number; place = v .place; count = count }
 
 -- the first check that fails; 0 and 0 if none does
 unfoldable pub verdict : List Check → Reply

@@ -7,26 +7,34 @@ use mathlib.Core.List.{List}
 use lib.Dec.{eqb}
 use lib.ListN.{length}
 use Rattle.model.specs.declared.Reply.{Reply}
+use Rattle.model.specs.declared.ImageReply.{ImageReply}
 use Rattle.model.specs.declared.PageReply.{PageReply}
 use Rattle.model.specs.declared.Cursor.{Cursor}
+use Rattle.model.specs.Sets.{ones}
 use Rattle.model.specs.Results.{imageBytes, pairsBytes}
 use Rattle.model.specs.Answers.{answers}
 use Rattle.model.specs.Pages.{Outcome, paged, unpaged}
-use Rattle.model.specs.Refusals.{verdict, written}
+use Rattle.model.specs.Refusals.{counting, verdict, written}
 use Rattle.model.specs.Checks.{imageChecks, pairsChecks, pageChecks}
 
--- the reply of forwards and of backwards: to a tree, a query, its number of variables and their nodes, a set, and the buffer
-abbrev pub imageReply : List ℕ → List ℕ → ℕ → List ℕ → List ℕ → List ℕ → Reply
-imageReply t q columns nodes from to = verdict (imageChecks t q columns nodes from (length to))
+-- the verdict of forwards and of backwards: on a tree, a query, its number of variables and their nodes, a set, and the buffer
+abbrev pub imageVerdict : List ℕ → List ℕ → ℕ → List ℕ → List ℕ → List ℕ → Reply
+imageVerdict t q columns nodes from to = verdict (imageChecks t q columns nodes from (length to))
 
--- the buffer after forwards, or after backwards where back is set
+-- the reply of forwards, or of backwards where back is set: the verdict, and the number of 1 bytes in the result, 0 at a refusal
+abbrev pub imageReply : List ℕ → List ℕ → ℕ → List ℕ → Bool → List ℕ → List ℕ → ImageReply
+imageReply t q columns nodes back from to =
+    counting (imageVerdict t q columns nodes from to)
+    (cond (eqb (imageVerdict t q columns nodes from to .number) 0) (ones (imageBytes t q nodes back from)) 0)
+
+-- the buffer after it
 abbrev pub imageBuffer : List ℕ → List ℕ → ℕ → List ℕ → Bool → List ℕ → List ℕ → List ℕ
-imageBuffer t q columns nodes back from to = written (imageReply t q columns nodes from to) (imageBytes t q nodes back from) to
+imageBuffer t q columns nodes back from to = written (imageVerdict t q columns nodes from to) (imageBytes t q nodes back from) to
 
 -- a reply, and a buffer as it was left, are those of the call
-abbrev pub ImageLeaves : List ℕ → List ℕ → ℕ → List ℕ → Bool → List ℕ → List ℕ → Reply → List ℕ → Type 0
+abbrev pub ImageLeaves : List ℕ → List ℕ → ℕ → List ℕ → Bool → List ℕ → List ℕ → ImageReply → List ℕ → Type 0
 ImageLeaves t q columns nodes back from to r after =
-    (r ≡ imageReply t q columns nodes from to) × (after ≡ imageBuffer t q columns nodes back from to)
+    (r ≡ imageReply t q columns nodes back from to) × (after ≡ imageBuffer t q columns nodes back from to)
 
 -- the reply of pairs: to a tree, a query, its number of variables and their nodes, and the buffer
 abbrev pub pairsReply : List ℕ → List ℕ → ℕ → List ℕ → List ℕ → Reply

@@ -7,7 +7,7 @@
 -- x ≤ y and x = y; `&&`, `||` and `not` join tests; `cond b x y` is x if b, else y. `λ x. e` takes x to e. `record { a = x; .. }`
 -- makes a record, and `t .size` is a field of t. Where a type is a statement, `x ≡ y` says that the two are equal,
 -- `(x : A) → P` that P holds for every x, `(x : A) × P` that it holds for some x, and `P × Q` that both hold.
-use Prim.Native.Nat.{ℕ, zero, suc}
+use Prim.Native.Nat.{ℕ, zero, suc, _+_}
 use mathlib.Core.Bool.{Bool, true, false, not, _&&_, _||_}
 use mathlib.Core.List.{List, [], _∷_}
 use lib.ListN.{getD}
@@ -27,6 +27,11 @@ bit false = 0
 unfoldable pub tab : ℕ → (ℕ → Bool) → List ℕ
 tab zero S = []
 tab (suc n) S = bit (S zero) ∷ tab n (λ k. S (suc k))
+
+-- how many bytes of a list are 1: of a set, how many nodes it has (document 02: the count; proofs/Counts.antt: ones-places)
+unfoldable pub ones : List ℕ → ℕ
+ones [] = 0
+ones (b ∷ s) = bit (eqb b 1) + ones s
 
 -- x is in the set that the bytes hold
 unfoldable pub memb : List ℕ → ℕ → Bool

@@ -4,13 +4,13 @@ use Prim.Native.Nat.{ℕ, _+_}
 use mathlib.Core.Path.{_≡_}
 use mathlib.Core.Bool.{Bool, true, false, _||_}
 use mathlib.Core.List.{List, [], _∷_, _++_}
-use lib.ListN.{replicate}
+use lib.ListN.{length, replicate}
 use lib.Dec.{eqb}
 use Rattle.model.specs.declared.Cursor.{Cursor}
 use Rattle.model.specs.Sets.{tab}
 use Rattle.model.specs.Tree.{sizeOf}
 use Rattle.model.specs.Pages.{Outcome}
-use Rattle.model.specs.Refusals.{reply}
+use Rattle.model.specs.Refusals.{reply, counting}
 use Rattle.model.specs.Services.{ImageLeaves, pageOutcome}
 
 -- parent, tag of nodes 0 to 5
@@ -40,11 +40,11 @@ among (y ∷ ys) x = eqb x y || among ys x
 unfoldable pub setOf : List ℕ → List ℕ → List ℕ
 setOf t xs = tab (sizeOf t) (among xs)
 
--- forwards, or backwards where back is set, accepts the call and writes the second set over the front of the buffer, which has two
--- bytes more and is lent with 7 in each
+-- forwards, or backwards where back is set, accepts the call, counts the nodes of the second set, and writes that set over the front
+-- of the buffer, which has two bytes more and is lent with 7 in each
 unfoldable pub Reaches : List ℕ → List ℕ → Bool → List ℕ → List ℕ → Type 0
 Reaches t q back from to =
-    ImageLeaves t q 0 [] back (setOf t from) (replicate (sizeOf t + 2) 7) (reply 0 0) (setOf t to ++ (7 ∷ 7 ∷ []))
+    ImageLeaves t q 0 [] back (setOf t from) (replicate (sizeOf t + 2) 7) (counting (reply 0 0) (length to)) (setOf t to ++ (7 ∷ 7 ∷ []))
 
 -- page calls in turn, each lent the cursor that the one before it left and a buffer with 7 in each number, have these outcomes
 unfoldable pub InTurn : List ℕ → ℕ → Cursor → ℕ → List Outcome → Type 0

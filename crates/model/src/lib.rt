@@ -1,13 +1,22 @@
 // The types that every layer shares. What a reader must believe of the engine is in specs/.
 ghost use mathlib.Core.Path.{_≡_};
 ghost use Prim.Native.Nat.{_<_};
-ghost use Rattle.model.specs.Refusals.{reply};
+ghost use Rattle.model.specs.Refusals.{reply, counting};
 
 // The reply to a call: 0 and 0, or the number and the place of a refusal.
 #[repr(C)]
 pub struct Reply {
     pub number: u16,
     pub place: u16,
+}
+
+// The reply to forwards and backwards: number and place, and how many nodes the result has (document 02: the count); 0 of a
+// refused call.
+#[repr(C)]
+pub struct ImageReply {
+    pub number: u16,
+    pub place: u16,
+    pub count: usize,
 }
 
 // The reply to a page call: number and place, how many rows it wrote, and whether a later row exists (document 01: count and
@@ -63,5 +72,16 @@ pub fn reply_at(number: u16, place: usize) -> Reply
     Reply {
         number: number,
         place: place as u16,
+    }
+}
+
+// A verdict as the reply to forwards or backwards, with a number of nodes.
+pub fn image_reply(v: Reply, count: usize) -> ImageReply
+    ensures { λ r. ⌜ r ≡ counting v count ⌝ }
+{
+    ImageReply {
+        number: v.number,
+        place: v.place,
+        count: count,
     }
 }

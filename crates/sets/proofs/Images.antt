@@ -1,27 +1,26 @@
 -- Laws of node sets as bytes, and of the images of sets under relations.
 use Prim.Native.Nat.{ℕ, zero, suc, _+_, _≤_, _<_}
 use native.Mathlib.Omega.{arith}
-use native.Mathlib.Numerals.{add-one}
+use native.Mathlib.Nat.{zero-add}
 use mathlib.Core.Path.{_≡_, refl, sym, ap, _∙_}
 use mathlib.Core.Bool.{Bool, true, false, not, _&&_, _||_, and-comm, and-assoc}
 use mathlib.Core.List.{List, [], _∷_}
 use lib.ListN.{List·getD-eq-default}
 use lib.Dec.{ltb, eqb}
 use borrow.Author.Tests.{ltb-true, lt-ltb, eqb-true}
-use Rattle.model.specs.Sets.{any, tab, memb, upto, turn, image}
+use Rattle.model.specs.Sets.{any, tab, ones, memb, upto, turn, image}
 use Rattle.model.proofs.Booleans.{Seen, yes!, no!, seen, bool-ext, both-yes, yes-right}
 use Rattle.model.proofs.Exists.{any-cong, and-any, any-and, any-swap, any-or, any-one}
-use Rattle.model.proofs.Bytes.{tab-cong, memb-tab}
-use Rattle.sets.specs.NodeSets.{always, only, combine, combination}
+use Rattle.model.proofs.Bytes.{tab-cong, tab-append, memb-tab}
+use Rattle.model.proofs.Counts.{ones-append}
+use Rattle.sets.specs.NodeSets.{always, only, combine, combination, shifted}
 
--- a search that goes through all numbers
+-- a count by halves
 
-pub any-next : (i : ℕ) (f : ℕ → Bool) (b : Bool) → b ≡ any i f → (f i || b) ≡ any (i + 1) f
-unfolding any
-any-next i f b p = rw (add-one i, p)
-
-pub any-whole : (n i : ℕ) (f : ℕ → Bool) (b : Bool) → b ≡ any i f → i ≤ n → n ≤ i → b ≡ any n f
-any-whole n i f b p l h = p ∙ ap (λ (k : ℕ). any k f) (let e : i ≡ n = omega arith in e)
+pub ones-halves : (s : List ℕ) (a b : ℕ) → a ≡ ones (tab 128 (shifted 0 s)) → b ≡ ones (tab 128 (shifted 128 s)) → a + b ≡ ones (tab 256 (memb s))
+ones-halves s a b p q =
+    rw (p, q, tab-cong 128 (shifted 0 s) (memb s) (λ k l. ap (memb s) (zero-add k)))
+    (sym (ones-append (tab 128 (memb s)) (tab 128 (shifted 128 s))) ∙ ap ones (sym (tab-append 128 128 (memb s))))
 
 -- combining at one node
 

@@ -1,5 +1,5 @@
 -- Node sets by value: 256 bytes, each 0 or 1, and 0 for every number that is no node.
-use Prim.Native.Nat.{ℕ}
+use Prim.Native.Nat.{ℕ, _+_}
 use mathlib.Core.Bool.{Bool, not, _&&_, _||_}
 use mathlib.Core.List.{List, [], _∷_}
 use lib.ListN.{getD}
@@ -21,3 +21,7 @@ combine op a b = getD ((a || b) ∷ (a && b) ∷ []) op (a && not b)
 -- two sets of bytes combined
 unfoldable pub combination : ℕ → List ℕ → List ℕ → ℕ → Bool
 combination op a b k = combine op (memb a k) (memb b k)
+
+-- the nodes from `at` on, numbered from there
+abbrev pub shifted : ℕ → List ℕ → ℕ → Bool
+shifted at s k = memb s (at + k)

@@ -6,8 +6,8 @@ ghost use mathlib.Core.Bool.{true};
 ghost use mathlib.Core.List.{_++_};
 ghost use Prim.Native.Nat.{_≤_, _<_};
 ghost use lib.ListN.{length, drop};
-ghost use Rattle.model.specs.Sets.{any, bit, tab, memb, upto};
-ghost use Rattle.sets.specs.NodeSets.{always, only, combine, combination};
+ghost use Rattle.model.specs.Sets.{any, bit, tab, ones, memb, upto};
+ghost use Rattle.sets.specs.NodeSets.{always, only, combine, combination, shifted};
 
 // The ways to combine two sets.
 pub const UNION: u8 = 0;
@@ -94,6 +94,39 @@ pub fn occupied(n: usize, s: [u8; 256]) -> bool
         i += 1;
     }
     found
+}
+
+// How many of the 128 nodes from `at` on are in the set. A byte holds the number, so that vector code counts sixteen nodes at
+// a time.
+fn count_half(s: [u8; 256], at: usize) -> u8
+    requires { ⌜ at ≤ 128 ⌝ }
+    ensures { λ r. ⌜ r ≡ ones (tab 128 (shifted at s)) ⌝ }
+{
+    let mut found = 0u8;
+    let mut i = 0;
+    while i < 128 {
+        found += byte(s[at + i] != 0);
+        i += 1;
+    }
+    found
+}
+
+// How many nodes a set has.
+pub fn count_of(s: [u8; 256]) -> usize
+    ensures { λ r. ⌜ r ≡ ones (tab 256 (memb s)) ⌝ }
+{
+    let low = count_half(s, 0);
+    let high = count_half(s, 128);
+    low as usize + high as usize
+}
+
+// Two sets combined, node by node, and how many nodes the result has.
+pub fn combined_counted(op: u8, a: [u8; 256], b: [u8; 256], count: &mut usize) -> [u8; 256]
+    ensures { λ r. ⌜ (r ≡ tab 256 (combination op a b)) × (now (count .exit) ≡ ones r) ⌝ }
+{
+    let r = combined(op, a, b);
+    *count = count_of(r);
+    r
 }
 
 // The set that lent bytes hold.

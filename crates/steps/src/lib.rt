@@ -6,7 +6,7 @@ ghost use mathlib.Core.Bool.{true};
 ghost use Prim.Native.Nat.{_*_, _≤_, _<_};
 ghost use lib.ListN.{length};
 ghost use lib.Dec.{eqb};
-ghost use Rattle.model.specs.Sets.{tab, memb, upto, turn, image};
+ghost use Rattle.model.specs.Sets.{tab, ones, memb, upto, turn, image};
 ghost use Rattle.model.specs.Tree.{treeOf, sizeOf};
 ghost use Rattle.model.specs.Axes.{following, axis, passes, steps};
 ghost use Rattle.tree.specs.Links.{links};
@@ -167,7 +167,7 @@ fn named(tree: &[u16], name: usize) -> [u8; 256]
 
 // The image under a step, by the code of its axis and its name test, or under the step's converse: forwards the test cuts the
 // image, backwards the set. The star passes every node, so that nothing is cut.
-pub fn step(
+fn step_image(
     tree: &[u16],
     prev: &[u16],
     a: usize,
@@ -192,4 +192,27 @@ pub fn step(
     }
     let m = axis_image(tree, prev, a, false, from);
     sets::combined(sets::INTERSECTION, m, s)
+}
+
+// The image under a step or its converse, and how many nodes it has.
+pub fn step(
+    tree: &[u16],
+    prev: &[u16],
+    a: usize,
+    name: usize,
+    back: bool,
+    from: [u8; 256],
+    count: &mut usize,
+) -> [u8; 256]
+    requires { ⌜ Linked (now tree) (now prev) × (a ≤ 12) ⌝ }
+    ensures { λ r.
+        ⌜
+        (r
+        ≡ tab 256 (image (sizeOf (now (tree .entry))) (turn back (steps (treeOf (now (tree .entry))) a name)) (memb from)))
+        × (now (count .exit) ≡ ones r)
+        ⌝ }
+{
+    let r = step_image(tree, prev, a, name, back, from);
+    *count = sets::count_of(r);
+    r
 }

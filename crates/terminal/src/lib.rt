@@ -25,7 +25,7 @@ pub extern "C" fn gz_check_query(query: &[u16], columns: u16) -> model::Reply
     query::check_query(query, model::wide(columns))
 }
 
-// The nodes that a set reaches by a query.
+// The nodes that a set reaches by a query, and how many they are.
 #[no_mangle]
 pub extern "C" fn gz_forwards(
     tree: &[u16],
@@ -34,7 +34,7 @@ pub extern "C" fn gz_forwards(
     nodes: &[u16],
     from: &[u8],
     to: &mut [u8],
-) -> model::Reply
+) -> model::ImageReply
     ensures { λ r.
         ⌜
         ImageLeaves (now (tree .entry)) (now (query .entry))
@@ -45,7 +45,7 @@ pub extern "C" fn gz_forwards(
     images::forwards(tree, query, model::wide(columns), nodes, from, to)
 }
 
-// The nodes that reach a set by a query.
+// The nodes that reach a set by a query, and how many they are.
 #[no_mangle]
 pub extern "C" fn gz_backwards(
     tree: &[u16],
@@ -54,7 +54,7 @@ pub extern "C" fn gz_backwards(
     nodes: &[u16],
     from: &[u8],
     to: &mut [u8],
-) -> model::Reply
+) -> model::ImageReply
     ensures { λ r.
         ⌜
         ImageLeaves (now (tree .entry)) (now (query .entry))

@@ -56,7 +56,7 @@ fn is_bad_tag(tree: &[u16], x: usize) -> bool
     requires { ⌜ x < sizeOf (now tree) ⌝ }
     ensures { λ r. ⌜ r ≡ badTag (treeOf (now (tree .entry))) x ⌝ }
 {
-    65533 < model::wide(tree[2 * x + 1])
+    65533 < tree[2 * x + 1]
 }
 
 // Whether node x fails the check of refusal k, 6 or 7, where no node before it does.
@@ -87,6 +87,31 @@ fn lowest_bad(tree: &[u16], k: usize) -> usize
     n
 }
 
+// Whether some node has a reserved tag. It goes through all nodes without a branch, so that vector code takes several at a time.
+fn has_bad_tag(tree: &[u16]) -> bool
+    ensures { λ r. ⌜ r ≡ any (sizeOf (now (tree .entry))) (badTag (treeOf (now (tree .entry)))) ⌝ }
+{
+    let n = tree.len() / 2;
+    let mut found = false;
+    let mut x = 0;
+    while x < n {
+        found = is_bad_tag(tree, x) | found;
+        x += 1;
+    }
+    found
+}
+
+// The lowest node with a reserved tag, or the number of nodes. It is searched for only where there is one.
+fn lowest_bad_tag(tree: &[u16]) -> usize
+    ensures { λ r. ⌜ r ≡ lowest (sizeOf (now (tree .entry))) (badTag (treeOf (now (tree .entry)))) ⌝ }
+{
+    let bad = has_bad_tag(tree);
+    if bad {
+        return lowest_bad(tree, 7);
+    }
+    tree.len() / 2
+}
+
 // The verdict on a tree table.
 pub fn check_tree(tree: &[u16]) -> model::Reply
     ensures { λ r. ⌜ r ≡ verdict (treeChecks (now (tree .entry))) ⌝ }
@@ -99,7 +124,7 @@ pub fn check_tree(tree: &[u16]) -> model::Reply
     if x < n {
         return model::reply_at(6, x);
     }
-    let y = lowest_bad(tree, 7);
+    let y = lowest_bad_tag(tree);
     if y < n {
         return model::reply_at(7, y);
     }

@@ -1,5 +1,5 @@
-// Calls of an evaluation, each with a buffer that is filled with a pattern: the reply is compared with the one that is due,
-// and the buffer afterwards with the bytes that are due.
+// Calls of an evaluation, each with a buffer that is filled with a pattern: the reply is compared with the one that is due, the
+// count of an image too, and the buffer afterwards with the bytes that are due.
 use harness::line;
 use harness::table;
 use harness::tally;
@@ -15,7 +15,7 @@ pub const PAIRS: u8 = b'p';
 pub const PATTERN: u8 = 7;
 
 // A call: what is lent beside the tables (the number of variables, how much of the set and how much of the buffer), and
-// the reply that is due.
+// the reply that is due; the count where the result is a set.
 pub struct Call {
     pub service: u8,
     pub columns: usize,
@@ -23,16 +23,19 @@ pub struct Call {
     pub room: usize,
     pub number: usize,
     pub place: usize,
+    pub count: usize,
 }
 
 // A reply that no service gives.
-fn no_reply() -> model::Reply {
-    model::Reply {
+fn no_reply() -> model::ImageReply {
+    model::ImageReply {
         number: 65535,
         place: 65535,
+        count: 65535,
     }
 }
 
+// The reply of the service; pairs has no count.
 fn serve(
     c: Call,
     tree: &[u16],
@@ -40,14 +43,14 @@ fn serve(
     nodes: &[u16],
     set: &[u8],
     to: &mut [u8],
-) -> model::Reply {
+) -> model::ImageReply {
     if c.service == FORWARDS {
         return images::forwards(tree, query, c.columns, nodes, set, to);
     }
     if c.service == BACKWARDS {
         return images::backwards(tree, query, c.columns, nodes, set, to);
     }
-    images::pairs(tree, query, c.columns, nodes, to)
+    model::image_reply(images::pairs(tree, query, c.columns, nodes, to), 0)
 }
 
 // Lends the fronts of the set and of the buffer.
@@ -58,7 +61,7 @@ fn lend(
     nodes: &[u16],
     set: &[u8],
     to: &mut [u8],
-) -> model::Reply {
+) -> model::ImageReply {
     let length = c.set;
     let room = c.room;
     if set.len() < length {
@@ -68,6 +71,14 @@ fn lend(
         return no_reply();
     }
     serve(c, tree, query, nodes, &set[0..length], &mut to[0..room])
+}
+
+// The count of a call whose result is a set.
+fn expect_count(tally: &mut tally::Tally, c: Call, count: usize) {
+    if c.service == PAIRS {
+        return;
+    }
+    tally::expect(tally, count == c.count);
 }
 
 fn compare(
@@ -84,7 +95,12 @@ fn compare(
     let q = table::numbers(query);
     let k = table::numbers(nodes);
     let got = lend(c, t, q, k, set, to);
-    tally::expect_reply(tally, got, c.number, c.place);
+    let number = model::Reply {
+        number: got.number,
+        place: got.place,
+    };
+    tally::expect_reply(tally, number, c.number, c.place);
+    expect_count(tally, c, got.count);
     tally::expect_bytes(tally, to, due, c.room);
 }
 
@@ -115,7 +131,8 @@ pub fn compare_pairs(
     compare(tally, c, tree, query, nodes, b"", &mut to, due);
 }
 
-// A line of the input: SERVICE NUMBER PLACE | COLUMNS ROOM | NODES | SET | BYTES, where BYTES are due at the buffer's front.
+// A line of the input: SERVICE NUMBER PLACE COUNT | COLUMNS ROOM | NODES | SET | BYTES, where BYTES are due at the buffer's front;
+// pairs has no COUNT.
 pub fn run(
     tally: &mut tally::Tally,
     tree: &table::Table,
@@ -136,6 +153,7 @@ pub fn run(
         room: line::number(line, 1, 1),
         number: line::number(line, 0, 0),
         place: line::number(line, 0, 1),
+        count: line::number(line, 0, 2),
     };
     compare_set(tally, c, tree, query, &nodes, &set, &due);
 }

@@ -6,13 +6,15 @@ use harness::tally;
 use reference::evaluator;
 use reference::random;
 
-// A call that is accepted, with a set of so many bytes, and room for as many as are needed or a few more.
+// A call that is accepted, with a set of so many bytes, and room for as many as are needed or a few more; so many nodes are
+// due where the result is a set.
 fn accepted(
     seed: &mut u64,
     service: u8,
     nodes: &table::Table,
     set: usize,
     needed: usize,
+    count: usize,
 ) -> call::Call {
     call::Call {
         service: service,
@@ -21,10 +23,11 @@ fn accepted(
         room: std::num::wrapping_add_usize(needed, random::below(seed, 3)),
         number: 0,
         place: 0,
+        count: count,
     }
 }
 
-// The image of a random set, forwards or backwards.
+// The image of a random set, forwards or backwards, and its count.
 fn compare_image(
     tally: &mut tally::Tally,
     seed: &mut u64,
@@ -41,7 +44,7 @@ fn compare_image(
     let back = service == call::BACKWARDS;
     let found = evaluator::image(pairs, table::last(query), n, back, &set, &mut due);
     tally::add(tally, tally::NODES, found as u64);
-    let c = accepted(seed, service, nodes, n, n);
+    let c = accepted(seed, service, nodes, n, n, found);
     call::compare_set(tally, c, tree, query, nodes, &set, &due);
 }
 
@@ -58,7 +61,7 @@ fn compare_pairs(
     let n = table::size(tree);
     let found = evaluator::all_pairs(pairs, table::last(query), n, &mut due);
     tally::add(tally, tally::PAIRS, found as u64);
-    let c = accepted(seed, call::PAIRS, nodes, 0, table::times(n, n));
+    let c = accepted(seed, call::PAIRS, nodes, 0, table::times(n, n), 0);
     call::compare_pairs(tally, c, tree, query, nodes, &due);
 }
 

@@ -20,10 +20,7 @@ full-requires : tie.Need-full-requires
 full-requires c κs = search needs
 
 path-requires : tie.Need-path-requires
-path-requires c κs = let s = c .before .before .before .before .before in (record { linked = s .pre .0 .linked; query = s .pre .0 .query (take (s .args .k) (s .args .t5)) (length-take-le (s .args .k) (s .args .t5) (omega (arith, s .pre .0 .most))) (s .pre .1) }, s .pre .0 .path)
-
-occupied-requires : tie.Need-occupied-requires
-occupied-requires c κs = search needs
+path-requires c κs = let s = c .before .before .before .before .before .before in (record { linked = s .pre .0 .linked; query = s .pre .0 .query (take (s .args .k) (s .args .t5)) (length-take-le (s .args .k) (s .args .t5) (omega (arith, s .pre .0 .most))) (s .pre .1) }, s .pre .0 .path)
 
 returns : tie.Need-returns
 returns c = search (has-pair, needs)
@@ -37,5 +34,4 @@ satisfies-spec =
     slice-aggregate-path
     full-requires
     path-requires
-    occupied-requires
     returns)

@@ -2,7 +2,7 @@ use Prim.Native.Nat.{_-_, _≤_}
 use native.Mathlib.Omega.{arith}
 use mathlib.Core.Path.{_≡_, refl}
 use Rattle.model.specs.Sets.{any, memb}
-use Rattle.sets.proofs.Images.{any-next, any-whole}
+use Rattle.model.proofs.Exists.{any-next, any-whole}
 use Rattle.sets.proofs.occupied.Statement.{statement}
 use Rattle.sets.proofs.occupied.Tie as tie
 

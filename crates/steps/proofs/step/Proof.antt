@@ -1,45 +1,16 @@
 use borrow.Author.Needs.{needs}
-use Rattle.steps.proofs.Images.{step-star, step-on, step-back}
+use Rattle.model.proofs.Counts.{ones-bytes}
 use Rattle.steps.proofs.step.Statement.{statement}
 use Rattle.steps.proofs.step.Tie as tie
 
-axis-image-requires : tie.Need-axis-image-requires
-axis-image-requires c κs = search needs
+step-image-requires : tie.Need-step-image-requires
+step-image-requires c κs = search needs
+
+count-of-requires : tie.Need-count-of-requires
+count-of-requires c κs = search needs
 
 returns : tie.Need-returns
-returns c = search (step-star, needs)
-
-named-requires : tie.Need-named-requires
-named-requires c κs = search needs
-
-combined-requires : tie.Need-combined-requires
-combined-requires c κs = search needs
-
-axis-image-requires-2 : tie.Need-axis-image-requires-2
-axis-image-requires-2 c κs = search needs
-
-returns-2 : tie.Need-returns-2
-returns-2 c = rw (c .before .before .if2 .taken) (search (step-back, needs))
-
-axis-image-requires-3 : tie.Need-axis-image-requires-3
-axis-image-requires-3 c κs = search needs
-
-combined-requires-2 : tie.Need-combined-requires-2
-combined-requires-2 c κs = search needs
-
-returns-3 : tie.Need-returns-3
-returns-3 c = rw (c .before .before .if2 .left) (search (step-on, needs))
+returns c = search (ones-bytes, needs)
 
 pub step-spec : {M : Type 1} → statement M
-step-spec =
-    tie.close
-    (tie.spec
-    axis-image-requires
-    returns
-    named-requires
-    combined-requires
-    axis-image-requires-2
-    returns-2
-    axis-image-requires-3
-    combined-requires-2
-    returns-3)
+step-spec = tie.close (tie.spec step-image-requires count-of-requires returns)

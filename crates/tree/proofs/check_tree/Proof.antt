@@ -26,8 +26,8 @@ returns-2 : tie.Need-returns-2
 unfolding treeChecks
 returns-2 c = c .reply-at2 .ensures ∙ search (stop-at, pass, needs)
 
-lowest-bad-requires-2 : tie.Need-lowest-bad-requires-2
-lowest-bad-requires-2 c κs = search needs
+lowest-bad-tag-requires : tie.Need-lowest-bad-tag-requires
+lowest-bad-tag-requires c κs = search needs
 
 reply-at-requires-3 : tie.Need-reply-at-requires-3
 reply-at-requires-3 c κs = search (place-fits, needs)
@@ -53,7 +53,7 @@ check-tree-spec =
     lowest-bad-requires
     reply-at-requires-2
     returns-2
-    lowest-bad-requires-2
+    lowest-bad-tag-requires
     reply-at-requires-3
     returns-3
     reply-at-requires-4

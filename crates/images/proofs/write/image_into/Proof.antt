@@ -1,4 +1,4 @@
-use Rattle.images.proofs.Tables.{image-front}
+use Rattle.images.proofs.Tables.{image-front, image-counted}
 use borrow.Author.Needs.{needs}
 use Rattle.images.proofs.write.image_into.Statement.{statement}
 use Rattle.images.proofs.write.image_into.Tie as tie
@@ -25,7 +25,7 @@ same-length : tie.Need-same-length
 same-length c = search needs
 
 returns : tie.Need-returns
-returns c = search (image-front, needs)
+returns c = search (image-front, image-counted, needs)
 
 pub image-into-spec : {M : Type 1} → statement M
 image-into-spec =
