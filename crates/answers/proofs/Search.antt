@@ -26,7 +26,7 @@ use Rattle.answers.specs.Search.{rowAt, ahead, Stands}
 use Rattle.answers.proofs.Odometer.{zeros-first}
 use Rattle.answers.proofs.Paging.{in-after}
 
--- one evaluation: the image of all nodes has some exactly if the query has a pair
+-- one evaluation: the image of all nodes has a node exactly if the query has a pair
 pub has-pair : (t q row full bytes : List ℕ) (k : ℕ) → k ≡ ones bytes → bytes ≡ reached t q row (lastOf q) false full
     → full ≡ tab 256 (upto (sizeOf t) (always true)) → sizeOf t ≤ 256 → not (eqb k 0) ≡ satisfied t q row
 unfolding satisfied reached image upto
