@@ -82,21 +82,6 @@ fn is_bad_byte(from: &[u8], i: usize) -> bool
     1 < from[i]
 }
 
-// The lowest byte above 1, or the number of bytes, from the first byte on.
-fn find_bad_byte(from: &[u8]) -> usize
-    ensures { λ r. ⌜ r ≡ lowest (length (now (from .entry))) (badByte (now (from .entry))) ⌝ }
-{
-    let n = from.len();
-    let mut i = 0;
-    while i < n {
-        if is_bad_byte(from, i) {
-            return i;
-        }
-        i += 1;
-    }
-    n
-}
-
 // Whether some byte is above 1. It goes through all bytes without a branch, so that vector code takes sixteen at a time.
 fn has_bad_byte(from: &[u8]) -> bool
     ensures { λ r. ⌜ r ≡ any (length (now (from .entry))) (badByte (now (from .entry))) ⌝ }
@@ -115,11 +100,18 @@ fn has_bad_byte(from: &[u8]) -> bool
 fn lowest_bad_byte(from: &[u8]) -> usize
     ensures { λ r. ⌜ r ≡ lowest (length (now (from .entry))) (badByte (now (from .entry))) ⌝ }
 {
-    let bad = has_bad_byte(from);
-    if bad {
-        return find_bad_byte(from);
+    let n = from.len();
+    if !has_bad_byte(from) {
+        return n;
     }
-    from.len()
+    let mut i = 0;
+    while i < n {
+        if is_bad_byte(from, i) {
+            return i;
+        }
+        i += 1;
+    }
+    n
 }
 
 // The checks 18 and 19. Places fit a reply where the tree is an accepted one.
