@@ -12,12 +12,13 @@ static inline double now(void)
 }
 
 /* A query as text, for engines that compile it, and as a table; reached has, for each start node x and each node y at
-   x * NODES + y, whether y is reached from x. */
+   x * n + y, whether y is reached from x. It is timed from one start. */
 struct query {
     const char *text;
     const uint16_t *table;
     size_t length;
     const uint8_t *reached;
+    size_t start;
 };
 
 /* An engine. It reads the document once and compiles each query once; call is what is timed. */
@@ -34,8 +35,12 @@ struct engine {
 #ifdef __cplusplus
 extern "C" {
 #endif
-extern const struct engine libxml2_engine, pugixml_engine, geznauri_engine;
+extern const struct engine libxml2_engine, pugixml_engine, geznauri_engine, index_engine;
 void give_up(const char *why);
+
+/* Compares the engines on all queries, times them, and prints a table in Markdown (timing.c). */
+void time_engines(const struct engine *const *engines, size_t engine_count, const struct query *queries, size_t query_count,
+                  const char *xml, const uint16_t *tree, size_t n, int with_start);
 #ifdef __cplusplus
 }
 #endif

@@ -1,8 +1,11 @@
 #!/usr/bin/env python3
 """Writes what the benchmark runs on to a folder: tree.xml, and tables.h with the same tree as a table, the queries as text
-and as tables, and the nodes that each query reaches from each node, worked out by tests/support/reference.py.
+and as tables, and the nodes that each query reaches from each node, worked out by tests/support/reference.py; searches for
+descendants with a tag, as queries; and the tree's index and the list of its tags.
 
-    generate.py FOLDER [NODES [SEED]]        256 nodes and seed 1 where nothing is told; element names are t1 to t8"""
+    generate.py [--different] FOLDER [NODES [SEED]]
+
+256 nodes and seed 1 where nothing is told; element names are t1 to t8 or, where asked, all different."""
 import os, random, sys
 sys.dont_write_bytecode = True
 sys.path.insert(0, os.path.join(os.path.dirname(__file__), "..", "tests", "support"))
@@ -83,6 +86,32 @@ QUERIES = [
 ]
 
 
+def search(start, tag):
+    """The descendants of a node that have a tag."""
+    return "descendant::t%d" % tag, step("descendant", tag), start
+
+
+def searches(table):
+    """Where names occur often: two of them from the root, from its child with the most descendants, and from a node with few.
+    Where all are different: an early node, one in the middle and the last, from the root."""
+    n, parents, tags = len(table) // 2, table[::2], table[1::2]
+    if len(set(tags)) == n:
+        return [search(0, tags[x]) for x in (1, n // 2, n - 1)]
+    size = [1] * n
+    for x in range(n - 1, 0, -1):
+        size[parents[x]] += size[x]
+    most = max((x for x in range(1, n) if parents[x] == 0), key=lambda x: size[x])
+    few = min(range(1, n), key=lambda x: abs(size[x] - 12))
+    return [search(start, tag) for start in (0, most, few) for tag in (2, 3)]
+
+
+def index(tags):
+    """The index of a tree, and the list of its tags, from their definition."""
+    n = len(tags)
+    later = [[y for y in range(x + 1, n) if tags[y] == tags[x]] for x in range(n)]
+    return [some[0] if some else 65535 for some in later], [k for t in sorted(set(tags)) for k in (t, tags.index(t), tags.count(t))]
+
+
 def tree_table(n, seed):
     """A tree of n nodes: each hangs below the node before it or, climbing by chance, below an ancestor of that node."""
     chance = random.Random(seed)
@@ -93,6 +122,13 @@ def tree_table(n, seed):
             p = table[2 * p]
         table += [p, 1 + int(8 * chance.random())]
     return table
+
+
+def all_different(table):
+    """The same tree with another name for each node, in any order."""
+    names = list(range(1, len(table) // 2 + 1))
+    random.Random(1).shuffle(names)
+    return [number for pair in zip(table[::2], names) for number in pair]
 
 
 def xml(table):
@@ -109,21 +145,31 @@ def array(kind, name, numbers):
     return "static const %s %s[] = {%s};\n" % (kind, name, ", ".join(map(str, numbers)))
 
 
-def header(table):
-    tree, n = Tree(table), len(table) // 2
-    text = "#define NODES %d\n" % n + array("uint16_t", "tree", table)
-    rows = []
-    for k, (xpath, entries) in enumerate(QUERIES):
+def query_array(name, tree, queries):
+    """An array of queries, each with its start, and the tables that it names."""
+    text, rows, n = "", [], tree.n
+    for k, (xpath, entries, start) in enumerate(queries):
         numbers = [number for entry in entries for number in entry]
         reached = relation(tree, numbers)
-        text += array("uint16_t", "query%d" % k, numbers)
-        text += array("uint8_t", "reached%d" % k, [reached[x] >> y & 1 for x in range(n) for y in range(n)])
-        rows.append('    {"%s", query%d, %d, reached%d},\n' % (xpath, k, len(numbers), k))
-    return text + "static const struct query queries[] = {\n%s};\n" % "".join(rows)
+        text += array("uint16_t", "%s_table%d" % (name, k), numbers)
+        text += array("uint8_t", "%s_reached%d" % (name, k), [reached[x] >> y & 1 for x in range(n) for y in range(n)])
+        rows.append('    {"%s", %s_table%d, %d, %s_reached%d, %d},\n' % (xpath, name, k, len(numbers), name, k, start))
+    return text + "static const struct query %s[] = {\n%s};\n" % (name, "".join(rows))
 
 
-folder = sys.argv[1]
-table = tree_table(int(sys.argv[2]) if len(sys.argv) > 2 else 256, int(sys.argv[3]) if len(sys.argv) > 3 else 1)
+def header(table):
+    tree, (due_next, due_tags) = Tree(table), index(table[1::2])
+    text = "#define NODES %d\n" % tree.n + array("uint16_t", "tree", table)
+    text += array("uint16_t", "due_next", due_next) + array("uint16_t", "due_tags", due_tags)
+    text += query_array("queries", tree, [(xpath, entries, 0) for xpath, entries in QUERIES])
+    return text + query_array("searches", tree, searches(table))
+
+
+different = sys.argv[1] == "--different"
+folder, *numbers = sys.argv[1 + different :]
+table = tree_table(*map(int, numbers + ["256", "1"][len(numbers) :]))
+if different:
+    table = all_different(table)
 os.makedirs(folder, exist_ok=True)
 with open(os.path.join(folder, "tree.xml"), "w") as f:
     f.write(xml(table))

@@ -1,10 +1,12 @@
-/* This engine, over its C boundary: every call is lent the tables, and checks the tree and the query anew. */
+/* This engine, over its C boundary: every call is lent the tables, and checks the tree and the query anew. Twice: queries, and the
+   descendants with a tag by the index of the tree, which is made once. */
 #include "bench.h"
 #include "geznauri.h"
 
 static const uint16_t *table;
 static size_t count, last;
 static const struct query *current;
+static uint16_t next[256], tags[768];
 static uint8_t from[256], to[256];
 static gz_image_reply reply;
 
@@ -37,3 +39,18 @@ static void found(uint8_t *set)
 }
 
 const struct engine geznauri_engine = {"this engine", open_document, compile, call, found};
+
+static void open_indexed(const char *xml, const uint16_t *tree, size_t n)
+{
+    open_document(xml, tree, n);
+    if (gz_index(tree, 2 * n, next, 256, tags, 768).number != 0)
+        give_up("this engine refuses the tree");
+}
+
+/* The query is the step descendant with a tag. */
+static void call_indexed(size_t start)
+{
+    reply = gz_descendants(table, 2 * count, next, count, (uint16_t)start, current->table[3], to, count);
+}
+
+const struct engine index_engine = {"this engine by index", open_indexed, compile, call_indexed, found};

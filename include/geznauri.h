@@ -2,26 +2,27 @@
  * Geznauri: queries over small trees, for C.
  *
  * The engine answers Core XPath queries with intersect, except and node variables over trees of up to 256 nodes. Trees and
- * queries are lent to it as tables of 16-bit numbers, and gz_read makes the table of a query that is typed. This page describes
- * them, every function, and every reply.
+ * queries are lent to it as tables of 16-bit numbers, and gz_read makes the table of a query that is typed. gz_index makes the
+ * index of a tree, by which gz_descendants finds the descendants with a tag. This page describes them, every function, and every
+ * reply.
  *
  * To link: `./build` writes target/staticlib/libterminal.a, for x86-64 Linux.
  *
  *     cc -I include program.c target/staticlib/libterminal.a
  *
- * The archive defines the functions of section 10 and no other global symbol. It needs two functions of the C library, which
- * compilers call of their own accord: memcpy, memset. It has less than 48 KiB of code and constants, and has no variables.
+ * The archive defines the functions of section 11 and no other global symbol. It needs two functions of the C library, which
+ * compilers call of their own accord: memcpy, memset. It has less than 56 KiB of code and constants, and has no variables.
  *
  * Contents:  1 For every call   2 Tree table   3 Query table   4 Node sets and relations   5 Answers, pages, cursors
- *            6 Name tables   7 Typed queries   8 Numbers of refusal   9 Types   10 Functions
+ *            6 Name tables   7 Typed queries   8 Indexes   9 Numbers of refusal   10 Types   11 Functions
  *
  *
  * 1  FOR EVERY CALL
  *
  * Any contents are taken: every number and byte that is lent may hold any value. Each function checks all that it is lent, in
- * every call; what it cannot take it refuses by number and place (section 8). A refused call writes nothing, but for gz_name,
- * which then hands back an empty part. There are no errors of any other kind: every call returns, sets no errno, takes no memory
- * from the heap and makes no system call.
+ * every call (of an index, what it reads); what it cannot take it refuses by number and place (section 9). A refused call writes
+ * nothing, but for gz_name, which then hands back an empty part. There are no errors of any other kind: every call returns, sets no
+ * errno, takes no memory from the heap and makes no system call.
  *
  * Slices. A pointer and a length behind it are one slice. The length is in elements, not in bytes. The pointer is valid and
  * aligned for that many elements; where the length is 0 it is neither read nor written through, and may be NULL. A const
@@ -31,11 +32,11 @@
  * with anything else that is lent to the same call. Nobody else writes what a call is lent while it runs.
  *
  * Threads. No function keeps anything between calls, and there is no global state: calls may run at the same time on any
- * number of threads, with the same tables too, so long as each has its own buffer and cursor.
+ * number of threads, with the same tables too, so long as each has its own buffers and cursor.
  *
- * Stack. gz_check_tree, gz_check_query and gz_name take less than 1 KiB, and gz_read takes less than 4 KiB, however deep its text
- * nests. The others take less than 8 KiB for a query of one level, and less than 4 KiB for each further level of its nesting
- * (section 3); there are 64 levels at most, so that no call takes 260 KiB.
+ * Stack. gz_check_tree, gz_check_query and gz_name take less than 1 KiB; gz_index, gz_descendants and gz_read, however deep its
+ * text nests, take less than 4 KiB. The others take less than 8 KiB for a query of one level, and less than 4 KiB for each further
+ * level of its nesting (section 3); there are 64 levels at most, so that no call takes 260 KiB.
  *
  * Everything is counted from 0. Numbers of tables are in the machine's own byte order.
  *
@@ -198,12 +199,40 @@
  *     child::shelf                  25 at 7: no tag has the name
  *
  *
- * 8  NUMBERS OF REFUSAL
+ * 8  INDEXES
+ *
+ * The index of a tree is n numbers: for each node the next later node that has the same tag, or 65535 where there is none. Beside
+ * it stands the list of the tags: three numbers for each tag that some node has, by rising tag: the tag, the first node that has
+ * it, and how many nodes have it. The counts add up to n. There are at most 256 tags, so that a list has at most 768 numbers.
+ *
+ *     uint16_t next[] = {65535, 4, 3, 5, 65535, 65535};
+ *     uint16_t tags[] = {1, 0, 1,  2, 1, 2,  3, 2, 3};        1 hall, from node 0; 2 bays, from node 1; 3 pallets, from node 2
+ *
+ * gz_index makes both. The caller keeps them beside the tree, and makes them anew where the tree changes.
+ *
+ * gz_descendants finds the descendants of a node, `start`, that have a tag, by a chain of nodes. The chain begins at the tree's
+ * first node after start that has the tag, and goes on from each node to the one that the index has for it. It stops at 65535, or
+ * at the first node that is no descendant of start; the nodes before that are the answer. With the tree's own index they are all
+ * descendants of start that have the tag. 65535 is no star here: no node has it as its tag, so that nothing is found.
+ *
+ * Any index may be lent. A number of it is looked at where the chain reads it, at each node of the answer and nowhere else, and
+ * is refused if it is neither 65535 nor a later node with the tag. An index that is wrong where the chain does not read it is
+ * not refused; nor is one that leaves out nodes: the answer is then short of them, but never has a node that is no descendant of
+ * start with the tag.
+ *
+ *     descendants of     tag     chain           answer
+ *     0                  3       2, 3, 5         {2, 3, 5}
+ *     1                  3       2, 3            {2, 3}         node 5 is no descendant of node 1
+ *     4                  3       5               {5}
+ *     0                  1                       {}             no node after node 0 has tag 1
+ *
+ *
+ * 9  NUMBERS OF REFUSAL
  *
  * A reply has number 0 and place 0 if the call is accepted. Else number says what is wrong and place where. Checks are made
  * in the order of the numbers, each over all that it looks at before the next begins; the first that fails is the reply, at
- * the lowest place that is at fault. gz_read alone has another order: 21, 23, 24, 25, 26, 20. Each function makes the checks that
- * its description in section 10 names.
+ * the lowest place that is at fault. Two functions have another order: gz_read 21, 23, 24, 25, 26, 20, and gz_descendants 5, 6, 7,
+ * 36, 27, 20. Each function makes the checks that its description in section 11 names.
  *
  *      number   refused because                                                             place
  *       5       the tree table is empty, of odd length, or longer than 512 numbers          0
@@ -225,8 +254,8 @@
  *               cursor, is not below n
  *      18       the node set is not n bytes long                                            0
  *      19       a byte of the node set is above 1                                           the byte
- *      20       the buffer has room for less than n bytes, n * n bytes, one row, or         0
- *               the table of the typed query
+ *      20       a buffer has room for less than n bytes, n * n bytes, one row, the          0
+ *               table of the typed query, the index, or the list of the tags
  *      21       a name table has a length byte of 0 or above 32, or a name that runs        0 the house's,
  *               past its end                                                                1 the site's
  *      22       the tag is above 65533 or has no name                                       0
@@ -237,6 +266,10 @@
  *                                                                                           the text's length
  *      25       a typed name is the name of no tag up to 65533                              the name's first byte
  *      26       the typed query has more than 64 entries                                    0
+ *      27       the index is not n numbers long                                             0
+ *               a number that the chain reads is not 65535, and is not later than the       the node at which it
+ *               node at which it is read, not below n, or of another tag                    is read
+ *      36       the start is not below n                                                    0
  *
  * Numbers 1 to 4 are of job files, which no function here reads.
  */
@@ -251,21 +284,21 @@
    program that was written to the header before may break: another reply to the same call, a refusal of what was accepted or the
    reverse, another type, size or name. GZ_VERSION_MINOR is counted up where something is added and all else is as it was. */
 #define GZ_VERSION_MAJOR 2
-#define GZ_VERSION_MINOR 0
+#define GZ_VERSION_MINOR 1
 
 #ifdef __cplusplus
 extern "C" {
 #endif
 
-/* 9  TYPES */
+/* 10  TYPES */
 
 /* The reply to a call: 0 and 0, or the number and the place of a refusal. */
 typedef struct {
     uint16_t number, place;
 } gz_reply;
 
-/* The reply to gz_forwards and gz_backwards: number and place as above, and how many nodes are in the image. Of a refused call,
-   count is 0. */
+/* The reply to gz_forwards, gz_backwards and gz_descendants: number and place as above, and how many nodes are in the set. Of a
+   refused call, count is 0. */
 typedef struct {
     uint16_t number, place;
     size_t count;
@@ -287,6 +320,13 @@ typedef struct {
     uint16_t columns;
 } gz_read_reply;
 
+/* The reply to the making of an index: number and place as above, and how many numbers were written to each buffer. Of a refused
+   call, next and tags are 0. */
+typedef struct {
+    uint16_t number, place;
+    size_t next, tags;
+} gz_index_reply;
+
 /* Where a caller stands in the answers of a query: whether it has begun, and the last row given, one node for each variable.
    All zero is a fresh cursor. Every byte of begun has a meaning: 0 is fresh, and any other byte is begun. While it is 0, last
    may hold anything; numbers of last at or above the number of variables may always hold anything, and are kept. */
@@ -301,7 +341,7 @@ typedef struct {
     size_t length;
 } gz_part;
 
-/* 10  FUNCTIONS */
+/* 11  FUNCTIONS */
 
 /* The check of a tree table: refusals 5 to 7. Time in proportion to tree_len. */
 gz_reply gz_check_tree(const uint16_t *tree, size_t tree_len);
@@ -354,6 +394,21 @@ gz_reply gz_name(const uint8_t *house, size_t house_len, const uint8_t *site, si
    the name tables, and one more for each name typed. */
 gz_read_reply gz_read(const uint8_t *text, size_t text_len, const uint8_t *house, size_t house_len, const uint8_t *site,
                       size_t site_len, uint16_t *query, size_t query_len);
+
+/* The index of a tree, and the list of its tags. next_len is n or more, and tags_len three times the number of tags or more; 256
+   and 768 numbers have room for every tree's. Refusals 5 to 7, and 20 where either buffer is too short.
+   Accepted, the first `next` numbers of `next`, n of them, are the index, the first `tags` numbers of `tags` are the list, three
+   for each tag, and all later numbers of both are as they were; refused, all of both is. Time in proportion to n times the number
+   of tags. */
+gz_index_reply gz_index(const uint16_t *tree, size_t tree_len, uint16_t *next, size_t next_len, uint16_t *tags, size_t tags_len);
+
+/* The descendants of the node `start` that have the tag, by following the index `next`. next_len is n; to_len is n or more; tag is
+   any number. Refusals 5 to 7, 36, 27 and 20, in this order.
+   Accepted, the first n bytes of `to` are the set of the nodes that the chain meets, all later bytes are as they were, and count is
+   the number of these nodes; refused, all of `to` is as it was. Time in proportion to n; of the index one number is read for each
+   node of the answer. */
+gz_image_reply gz_descendants(const uint16_t *tree, size_t tree_len, const uint16_t *next, size_t next_len, uint16_t start,
+                              uint16_t tag, uint8_t *to, size_t to_len);
 
 #ifdef __cplusplus
 }

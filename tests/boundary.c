@@ -13,11 +13,13 @@ _Static_assert(sizeof(gz_page_reply) == 24 && offsetof(gz_page_reply, number) ==
 _Static_assert(offsetof(gz_page_reply, count) == 8 && offsetof(gz_page_reply, more) == 16, "gz_page_reply");
 _Static_assert(sizeof(gz_read_reply) == 24 && offsetof(gz_read_reply, number) == 0 && offsetof(gz_read_reply, place) == 2, "gz_read_reply");
 _Static_assert(offsetof(gz_read_reply, count) == 8 && offsetof(gz_read_reply, columns) == 16, "gz_read_reply");
+_Static_assert(sizeof(gz_index_reply) == 24 && offsetof(gz_index_reply, number) == 0 && offsetof(gz_index_reply, place) == 2, "gz_index_reply");
+_Static_assert(offsetof(gz_index_reply, next) == 8 && offsetof(gz_index_reply, tags) == 16, "gz_index_reply");
 _Static_assert(sizeof(gz_cursor) == 8 && offsetof(gz_cursor, begun) == 0 && offsetof(gz_cursor, last) == 2, "gz_cursor");
 _Static_assert(sizeof(gz_part) == 16 && offsetof(gz_part, start) == 0 && offsetof(gz_part, length) == 8, "gz_part");
 _Static_assert(sizeof(bool) == 1 && sizeof(size_t) == 8, "bool and size_t");
-#if GZ_VERSION_MAJOR != 2
-#error "this program is written to version 2.0 of the header"
+#if GZ_VERSION_MAJOR != 2 || GZ_VERSION_MINOR < 1
+#error "this program is written to version 2.1 of the header"
 #endif
 
 #define PATTERN 0xA5
@@ -729,6 +731,184 @@ static void typed(void)
     page(pairs, LENT(table, r.count, r.columns, NOTHING), &cursor, 64, ACCEPTED(3, false), NUMBERS(1, 2, 1, 3, 4, 5), AT(4, 5, 0));
 }
 
+/* Indexes. Both buffers stand in memory that is filled with the pattern, and all of it is compared. */
+
+struct room {
+    size_t next, tags;
+};
+#define ROOM(next, tags) (struct room){next, tags}
+#define MADE(next, tags) (gz_index_reply){0, 0, next, tags}
+#define UNMADE(number, place) (gz_index_reply){number, place, 0, 0}
+
+static void making(const char *what, const uint16_t *table, size_t length, struct room room, gz_index_reply reply, const uint16_t *next,
+                   const uint16_t *tags)
+{
+    uint16_t next_memory[MARGIN + 300 + MARGIN], next_wanted[LENGTH(next_memory)];
+    uint16_t tags_memory[MARGIN + 800 + MARGIN], tags_wanted[LENGTH(tags_memory)];
+    memset(next_memory, PATTERN, sizeof next_memory);
+    memset(next_wanted, PATTERN, sizeof next_wanted);
+    memset(tags_memory, PATTERN, sizeof tags_memory);
+    memset(tags_wanted, PATTERN, sizeof tags_wanted);
+    if (reply.number == 0) {
+        memcpy(next_wanted + MARGIN, next, reply.next * sizeof *next);
+        memcpy(tags_wanted + MARGIN, tags, reply.tags * sizeof *tags);
+    }
+    gz_index_reply r = gz_index(table, length, room.next == 0 ? NULL : next_memory + MARGIN, room.next,
+                                room.tags == 0 ? NULL : tags_memory + MARGIN, room.tags);
+    expect(r.number == reply.number && r.place == reply.place, "gz_index", what, "reply");
+    expect(r.next == reply.next && r.tags == reply.tags, "gz_index", what, "next or tags");
+    expect(memcmp(next_memory, next_wanted, sizeof next_memory) == 0, "gz_index", what, "index");
+    expect(memcmp(tags_memory, tags_wanted, sizeof tags_memory) == 0, "gz_index", what, "list of tags");
+}
+
+/* An index that is made where the room just suffices and where there is more, and is not made where either buffer has less. */
+static void makes(const char *what, const uint16_t *table, size_t length, const uint16_t *next, size_t next_len, const uint16_t *tags,
+                  size_t tags_len)
+{
+    making(what, table, length, ROOM(next_len, tags_len), MADE(next_len, tags_len), next, tags);
+    making(what, table, length, ROOM(next_len + 1, tags_len), MADE(next_len, tags_len), next, tags);
+    making(what, table, length, ROOM(next_len, tags_len + 2), MADE(next_len, tags_len), next, tags);
+    making(what, table, length, ROOM(300, 800), MADE(next_len, tags_len), next, tags);
+    making(what, table, length, ROOM(next_len - 1, 800), UNMADE(20, 0), NULL, NULL);
+    making(what, table, length, ROOM(300, tags_len - 1), UNMADE(20, 0), NULL, NULL);
+    making(what, table, length, ROOM(300, 0), UNMADE(20, 0), NULL, NULL);
+    making(what, table, length, ROOM(0, 800), UNMADE(20, 0), NULL, NULL);
+    making(what, table, length, ROOM(0, 0), UNMADE(20, 0), NULL, NULL);
+}
+
+static void unmakes(const char *what, const uint16_t *table, size_t length, uint16_t number, uint16_t place)
+{
+    making(what, table, length, ROOM(300, 800), UNMADE(number, place), NULL, NULL);
+    making(what, table, length, ROOM(0, 0), UNMADE(number, place), NULL, NULL);
+}
+
+static const uint16_t warehouse_next[] = {65535, 4, 3, 5, 65535, 65535};
+
+static void indexes(void)
+{
+    uint16_t table[2 * 257], next[256], tags[3 * 256];
+    makes("the warehouse", SLICE(warehouse), SLICE(warehouse_next), NUMBERS(1, 0, 1, 2, 1, 2, 3, 2, 3));
+    makes("one node", NUMBERS(65535, 0), NUMBERS(65535), NUMBERS(0, 0, 1));
+    makes("the highest tag", NUMBERS(65535, 65533), NUMBERS(65535), NUMBERS(65533, 0, 1));
+    makes("the lowest tag behind the highest", NUMBERS(65535, 65533, 0, 0, 1, 65533, 0, 0), NUMBERS(2, 3, 65535, 65535),
+          NUMBERS(0, 1, 2, 65533, 0, 2));
+    makes("falling tags", NUMBERS(65535, 9, 0, 8, 0, 7), NUMBERS(65535, 65535, 65535), NUMBERS(7, 2, 1, 8, 1, 1, 9, 0, 1));
+    makes("tags that differ in one byte", NUMBERS(65535, 256, 0, 1, 0, 257, 0, 0), NUMBERS(65535, 65535, 65535, 65535),
+          NUMBERS(0, 3, 1, 1, 1, 1, 256, 0, 1, 257, 2, 1));
+
+    /* as many nodes as a tree may have: all with one tag, all with different ones by falling tag, and 17 tags in turn */
+    for (uint16_t x = 0; x < 257; x++)
+        table[2 * x] = x == 0 ? 65535 : 0, table[2 * x + 1] = 5;
+    for (uint16_t x = 0; x < 256; x++)
+        next[x] = x == 255 ? 65535 : x + 1;
+    makes("256 nodes with one tag", table, 512, SLICE(next), NUMBERS(5, 0, 256));
+    unmakes("257 nodes", table, 514, 5, 0);
+    for (uint16_t x = 0; x < 256; x++) {
+        table[2 * x + 1] = 65533 - 256 * x;
+        next[x] = 65535;
+        tags[3 * x] = 253 + 256 * x, tags[3 * x + 1] = 255 - x, tags[3 * x + 2] = 1;
+    }
+    makes("256 tags", table, 512, SLICE(next), SLICE(tags));
+    for (uint16_t x = 0; x < 256; x++) {
+        table[2 * x + 1] = x % 17;
+        next[x] = x + 17 < 256 ? x + 17 : 65535;
+    }
+    for (uint16_t k = 0; k < 17; k++)
+        tags[3 * k] = k, tags[3 * k + 1] = k, tags[3 * k + 2] = k == 0 ? 16 : 15;
+    makes("17 tags", table, 512, SLICE(next), tags, 3 * 17);
+
+    unmakes("no tree", NOTHING, 5, 0);
+    unmakes("half a node", warehouse, 11, 5, 0);
+    unmakes("a root with a parent", NUMBERS(0, 1), 6, 0);
+    unmakes("a bad parent before a bad tag", NUMBERS(65535, 65535, 0, 2, 2, 3), 6, 2);
+    unmakes("tag 65534", NUMBERS(65535, 1, 0, 65534, 1, 65535), 7, 1);
+    unmakes("tag 65535", NUMBERS(65535, 1, 0, 2, 1, 65535), 7, 2);
+}
+
+/* Searches by an index. */
+
+static void descend(const char *what, const uint16_t *table, size_t table_len, const uint16_t *next, size_t next_len, uint16_t start,
+                    uint16_t tag, size_t room, uint16_t number, uint16_t place, const char *result)
+{
+    uint8_t memory[MARGIN + 300 + MARGIN], wanted[sizeof memory];
+    memset(memory, PATTERN, sizeof memory);
+    memset(wanted, PATTERN, sizeof wanted);
+    bytes(wanted + MARGIN, result);
+    gz_image_reply r = gz_descendants(table, table_len, next, next_len, start, tag, room == 0 ? NULL : memory + MARGIN, room);
+    expect(r.number == number && r.place == place, "gz_descendants", what, "reply");
+    expect(r.count == ones(result), "gz_descendants", what, "count");
+    expect(memcmp(memory, wanted, sizeof memory) == 0, "gz_descendants", what, "buffer");
+}
+#define OWN SLICE(warehouse), SLICE(warehouse_next)
+#define BY(...) SLICE(warehouse), NUMBERS(__VA_ARGS__)
+
+static void descendants(void)
+{
+    descend("pallets of the hall", OWN, 0, 3, 6, 0, 0, "001101");
+    descend("pallets of bay 1", OWN, 1, 3, 6, 0, 0, "001100");
+    descend("pallets of bay 4", OWN, 4, 3, 300, 0, 0, "000001");
+    descend("bays of the hall", OWN, 0, 2, 7, 0, 0, "010010");
+    descend("a node is no descendant of itself", OWN, 0, 1, 6, 0, 0, "000000");
+    descend("a leaf", OWN, 2, 3, 6, 0, 0, "000000");
+    descend("the last node", OWN, 5, 3, 6, 0, 0, "000000");
+    descend("a tag that no node has", OWN, 0, 4, 6, 0, 0, "000000");
+    descend("65534", OWN, 0, 65534, 6, 0, 0, "000000");
+    descend("65535 is no star", OWN, 0, 65535, 6, 0, 0, "000000");
+    descend("one node", NUMBERS(65535, 7), NUMBERS(65535), 0, 7, 1, 0, 0, "0");
+
+    /* the tree says where a chain begins, the index how it goes on; what it does not read may be anything */
+    descend("other numbers at other tags", BY(7, 7, 3, 5, 7, 65535), 0, 3, 6, 0, 0, "001101");
+    descend("a number behind the stop", BY(7, 7, 3, 5, 7, 7), 1, 3, 6, 0, 0, "001100");
+    descend("a first node beyond the subtree", BY(7, 7, 7, 7, 7, 7), 2, 3, 6, 0, 0, "000000");
+    descend("no first node", BY(7, 7, 7, 7, 7, 7), 0, 1, 6, 0, 0, "000000");
+    descend("an end that comes early", BY(65535, 4, 65535, 5, 65535, 65535), 0, 3, 6, 0, 0, "001000");
+    descend("a node left out", BY(65535, 4, 5, 5, 65535, 65535), 0, 3, 6, 0, 0, "001001");
+    descend("a node left out for one beyond the subtree", BY(65535, 4, 5, 5, 65535, 65535), 1, 3, 6, 0, 0, "001000");
+
+    /* 27: the number at which the chain would stop is read too */
+    descend("the node itself", BY(65535, 4, 2, 5, 65535, 65535), 0, 3, 6, 27, 2, "");
+    descend("an earlier node", BY(65535, 4, 3, 2, 65535, 65535), 0, 3, 6, 27, 3, "");
+    descend("a node of another tag", BY(65535, 4, 3, 4, 65535, 65535), 0, 3, 6, 27, 3, "");
+    descend("a node of another tag beyond the subtree", BY(65535, 4, 3, 4, 65535, 65535), 1, 3, 6, 27, 3, "");
+    descend("n", BY(65535, 4, 6, 5, 65535, 65535), 0, 3, 6, 27, 2, "");
+    descend("65534", BY(65535, 4, 3, 5, 65535, 65534), 0, 3, 6, 27, 5, "");
+    descend("65534 beyond the subtree", BY(65535, 4, 3, 65534, 65535, 65535), 1, 3, 6, 27, 3, "");
+    descend("0", BY(65535, 4, 3, 5, 65535, 0), 4, 3, 6, 27, 5, "");
+    descend("two wrong numbers", BY(65535, 4, 3, 1, 65535, 1), 0, 3, 6, 27, 3, "");
+    descend("an index of 5 numbers", SLICE(warehouse), warehouse_next, 5, 0, 3, 6, 27, 0, "");
+    descend("an index of 7 numbers", BY(65535, 4, 3, 5, 65535, 65535, 65535), 0, 3, 6, 27, 0, "");
+    descend("no index", SLICE(warehouse), NOTHING, 0, 3, 6, 27, 0, "");
+    descend("no index where nothing is found", SLICE(warehouse), NOTHING, 0, 65535, 6, 27, 0, "");
+
+    /* the other refusals, and their order */
+    descend("no tree", NOTHING, SLICE(warehouse_next), 0, 3, 6, 5, 0, "");
+    descend("half a node", warehouse, 11, NOTHING, 6, 3, 0, 5, 0, "");
+    descend("a bad parent", NUMBERS(65535, 1, 1, 2), NUMBERS(65535, 65535), 2, 2, 2, 6, 1, "");
+    descend("a bad tag", NUMBERS(65535, 1, 0, 65535), NOTHING, 0, 65535, 0, 7, 1, "");
+    descend("start 6", OWN, 6, 3, 6, 36, 0, "");
+    descend("start 65535", OWN, 65535, 3, 6, 36, 0, "");
+    descend("start 6 before the index", SLICE(warehouse), NOTHING, 6, 3, 0, 36, 0, "");
+    descend("the index before the room", BY(65535, 4, 3, 1, 65535, 1), 0, 3, 5, 27, 3, "");
+    descend("room for 5 bytes", OWN, 0, 3, 5, 20, 0, "");
+    descend("no room where nothing is found", OWN, 0, 9, 0, 20, 0, "");
+}
+
+/* Every number of descendants that there can be: from each node of a chain of 256. */
+static void descendants_of_chain(void)
+{
+    uint16_t table[512], next[256], tags[3], room = 256;
+    for (uint16_t x = 0; x < 256; x++)
+        table[2 * x] = x == 0 ? 65535 : x - 1, table[2 * x + 1] = 65533;
+    gz_index_reply r = gz_index(SLICE(table), SLICE(next), SLICE(tags));
+    expect(r.number == 0 && r.next == 256 && r.tags == 3, "gz_index", "a chain", "reply");
+    for (uint16_t start = 0; start < 256; start++) {
+        char all[257] = "";
+        for (int y = 0; y < 256; y++)
+            all[y] = y > start ? '1' : '0';
+        descend("a chain", SLICE(table), SLICE(next), start, 65533, room, 0, 0, all);
+    }
+}
+
 int main(void)
 {
     trees();
@@ -739,6 +919,9 @@ int main(void)
     pages();
     names();
     typed();
+    indexes();
+    descendants();
+    descendants_of_chain();
     printf("%d compared, %d wrong\n", tried, failed);
     return failed != 0;
 }

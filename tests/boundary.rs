@@ -38,6 +38,15 @@ struct ReadReply {
 
 #[repr(C)]
 #[derive(Clone, Copy, Debug, PartialEq)]
+struct IndexReply {
+    number: u16,
+    place: u16,
+    next: usize,
+    tags: usize,
+}
+
+#[repr(C)]
+#[derive(Clone, Copy, Debug, PartialEq)]
 struct Cursor {
     begun: u8,
     last: [u16; 3],
@@ -54,6 +63,7 @@ const _: () = assert!(size_of::<Reply>() == 4 && offset_of!(Reply, place) == 2);
 const _: () = assert!(size_of::<ImageReply>() == 16 && offset_of!(ImageReply, place) == 2 && offset_of!(ImageReply, count) == 8);
 const _: () = assert!(size_of::<PageReply>() == 24 && offset_of!(PageReply, count) == 8 && offset_of!(PageReply, more) == 16);
 const _: () = assert!(size_of::<ReadReply>() == 24 && offset_of!(ReadReply, count) == 8 && offset_of!(ReadReply, columns) == 16);
+const _: () = assert!(size_of::<IndexReply>() == 24 && offset_of!(IndexReply, next) == 8 && offset_of!(IndexReply, tags) == 16);
 const _: () = assert!(size_of::<Cursor>() == 8 && offset_of!(Cursor, last) == 2);
 const _: () = assert!(size_of::<Part>() == 16 && offset_of!(Part, length) == 8);
 
@@ -86,6 +96,12 @@ extern "C" {
         text: *const u8, text_len: usize, house: *const u8, house_len: usize, site: *const u8, site_len: usize,
         query: *mut u16, query_len: usize,
     ) -> ReadReply;
+    fn gz_index(
+        tree: *const u16, tree_len: usize, next: *mut u16, next_len: usize, tags: *mut u16, tags_len: usize,
+    ) -> IndexReply;
+    fn gz_descendants(
+        tree: *const u16, tree_len: usize, next: *const u16, next_len: usize, start: u16, tag: u16, to: *mut u8, to_len: usize,
+    ) -> ImageReply;
 }
 
 // Safe forms: a slice is its pointer and its length.
@@ -129,6 +145,14 @@ fn name<'a>(house: &'a [u8], site: &'a [u8], tag: u16) -> (Reply, &'a [u8]) {
 fn read(text: &[u8], house: &[u8], site: &[u8], query: &mut [u16]) -> ReadReply {
     let (t, h, s) = (text, house, site);
     unsafe { gz_read(t.as_ptr(), t.len(), h.as_ptr(), h.len(), s.as_ptr(), s.len(), query.as_mut_ptr(), query.len()) }
+}
+
+fn index(tree: &[u16], next: &mut [u16], tags: &mut [u16]) -> IndexReply {
+    unsafe { gz_index(tree.as_ptr(), tree.len(), next.as_mut_ptr(), next.len(), tags.as_mut_ptr(), tags.len()) }
+}
+
+fn descendants(tree: &[u16], next: &[u16], start: u16, tag: u16, to: &mut [u8]) -> ImageReply {
+    unsafe { gz_descendants(tree.as_ptr(), tree.len(), next.as_ptr(), next.len(), start, tag, to.as_mut_ptr(), to.len()) }
 }
 
 const WAREHOUSE: [u16; 12] = [65535, 1, 0, 2, 1, 3, 1, 3, 0, 2, 4, 3];
@@ -235,4 +259,32 @@ fn main() {
     assert_eq!(read(&b"/.".repeat(33), house, site, &mut []), unread(26, 0));
     assert_eq!(read(b"child::bay", house, site, &mut query[..3]), unread(20, 0));
     assert_eq!(query, before);
+
+    // an index, and what is found by it
+    let unmade = |number, place| IndexReply { number, place, next: 0, tags: 0 };
+    let (mut next, mut tags) = ([7; 8], [7; 11]);
+    assert_eq!(index(&WAREHOUSE, &mut next[..5], &mut tags), unmade(20, 0));
+    assert_eq!(index(&WAREHOUSE, &mut next, &mut tags[..8]), unmade(20, 0));
+    assert_eq!(index(&WAREHOUSE[..11], &mut next, &mut tags), unmade(5, 0));
+    assert_eq!(index(&[65535, 1, 1, 65535], &mut next, &mut tags), unmade(6, 1));
+    assert_eq!(index(&[65535, 1, 0, 65534], &mut [], &mut []), unmade(7, 1));
+    assert_eq!((next, tags), ([7; 8], [7; 11]));
+    assert_eq!(index(&WAREHOUSE, &mut next, &mut tags), IndexReply { number: 0, place: 0, next: 6, tags: 9 });
+    assert_eq!((next, tags), ([65535, 4, 3, 5, 65535, 65535, 7, 7], [1, 0, 1, 2, 1, 2, 3, 2, 3, 7, 7]));
+
+    let mut set = [7; 8];
+    assert_eq!(descendants(&WAREHOUSE, &next[..6], 0, 3, &mut set), found(3));
+    assert_eq!(set, [0, 0, 1, 1, 0, 1, 7, 7]);
+    assert_eq!(descendants(&WAREHOUSE, &next[..6], 1, 3, &mut set[..6]), found(2));
+    assert_eq!(set, [0, 0, 1, 1, 0, 0, 7, 7]);
+    assert_eq!(descendants(&WAREHOUSE, &next[..6], 0, 65535, &mut set), found(0));
+    assert_eq!(set, [0, 0, 0, 0, 0, 0, 7, 7]);
+    set = [7; 8];
+    assert_eq!(descendants(&WAREHOUSE[..11], &[], 6, 3, &mut set), no_image(5, 0));
+    assert_eq!(descendants(&WAREHOUSE, &[], 6, 3, &mut set), no_image(36, 0));
+    assert_eq!(descendants(&WAREHOUSE, &next, 0, 3, &mut set), no_image(27, 0));
+    next[3] = 4;
+    assert_eq!(descendants(&WAREHOUSE, &next[..6], 1, 3, &mut set[..5]), no_image(27, 3));
+    assert_eq!(descendants(&WAREHOUSE, &next[..6], 4, 3, &mut set[..5]), no_image(20, 0));
+    assert_eq!(set, [7; 8]);
 }

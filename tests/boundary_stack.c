@@ -1,7 +1,7 @@
 /* The stack that a call takes is as include/geznauri.h has it: less than 1 KiB for a check and a name, less than 4 KiB where a typed
-   query is read, less than 8 KiB for a query of one level, and less than 4 KiB for each further level of nesting. Calls run on a
-   stack that was filled with a pattern; how much of the pattern is gone, less what a thread takes that calls nothing, is what the
-   call took. The tree has one node: frames are of one size for all trees. */
+   query is read, an index is made or followed, less than 8 KiB for a query of one level, and less than 4 KiB for each further level
+   of nesting. Calls run on a stack that was filled with a pattern; how much of the pattern is gone, less what a thread takes that
+   calls nothing, is what the call took. The tree of queries has one node: frames are of one size for all trees. */
 #define _GNU_SOURCE
 #include "geznauri.h"
 #include <pthread.h>
@@ -72,6 +72,22 @@ static void *reading(void *unused)
     return unused;
 }
 
+/* The index of a tree as large as it may be: a chain, with the tags in turn. */
+static uint16_t chain[512], chain_next[256], chain_tags[768];
+
+static void *index_made(void *unused)
+{
+    accepted(gz_index(chain, 512, chain_next, 256, chain_tags, 768).number);
+    return unused;
+}
+
+static void *index_followed(void *unused)
+{
+    static uint8_t to[256];
+    accepted(gz_descendants(chain, 512, chain_next, 256, 0, chain[3], to, 256).number);
+    return unused;
+}
+
 static size_t taken(void *(*run)(void *))
 {
     uint8_t *stack = aligned_alloc(4096, SIZE);
@@ -128,6 +144,16 @@ static void nested(const char *open, size_t times, const char *middle, const cha
         wrong = 1;
 }
 
+static void indexed(uint16_t tags)
+{
+    for (uint16_t x = 0; x < 256; x++)
+        chain[2 * x] = x == 0 ? 65535 : x - 1, chain[2 * x + 1] = x % tags;
+    size_t made = taken(index_made) - taken(nothing), followed = taken(index_followed) - taken(nothing);
+    printf("an index with %u tags: %zu bytes where it is made, %zu where it is followed\n", tags, made, followed);
+    if (made >= 4096 || followed >= 4096)
+        wrong = 1;
+}
+
 int main(void)
 {
     nested("", 0, ".", "", 0);
@@ -141,6 +167,10 @@ int main(void)
     nested("(.[/", 256, "", "", 24);
     nested("child::pallet union ", 51, ".", "", 26);
     nested("child::shelf/", 78, ".", "", 25);
+
+    indexed(1);
+    indexed(2);
+    indexed(256);
 
     /* every axis, with the star and with a tag */
     for (uint16_t axis = 0; axis <= 12; axis++)

@@ -1,6 +1,6 @@
 #!/usr/bin/env python3
-"""The examples of docs/REFERENCE.md are right by tests/support/reference.py: what stands on each axis, the job file byte for
-byte, and what the program prints for it. The worked readings and refusals of typed queries are lines of tests/boundary.c, which
+"""The examples of docs/REFERENCE.md are right by tests/support/reference.py: what stands on each axis, the index, the job file byte
+for byte, and what the program prints for it. The worked readings and refusals of typed queries are lines of tests/boundary.c, which
 holds the library to them."""
 import itertools, os, re, struct, sys
 sys.dont_write_bytecode = True
@@ -36,6 +36,11 @@ for code, *columns in axes:
     for start, column in zip((1, 4), columns):
         if [int(y) for y in column.split()] != nodes_of(tree.axes[int(code)][start]):
             problems.append("axis %s from node %d is not %s" % (code, start, column.strip()))
+index, tag_list = [[int(w) for w in part.split()] for part in re.search(r"^index (.*)list (.*)$", block("The index", 0), re.M).groups()]
+tags = table[1::2]
+later = lambda x: next((y for y in range(x + 1, tree.n) if tags[y] == tags[x]), 65535)
+if index != [later(x) for x in range(tree.n)] or tag_list != [k for t in sorted(set(tags)) for k in (t, tags.index(t), tags.count(t))]:
+    problems.append("the index or the list of the tags is not the warehouse's")
 answers = [row for row in itertools.product(range(tree.n), repeat=variables) if any(relation(tree, query, row))]
 printed = "".join("%s\n" % " ".join(map(str, row)) for row in answers) + "end %d\n" % len(answers)
 if block("Output of the program", 0).lstrip("\n") != printed:

@@ -132,7 +132,7 @@ fn check_set(tree: &[u16], from: &[u8]) -> model::Reply
 }
 
 // Refusal 20: a buffer has room for less than is needed.
-fn check_room(room: usize, needed: usize) -> model::Reply
+pub fn check_room(room: usize, needed: usize) -> model::Reply
     ensures { λ r. ⌜ r ≡ verdict (roomChecks room needed) ⌝ }
 {
     let short = room < needed;

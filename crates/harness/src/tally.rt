@@ -1,46 +1,53 @@
 // What was compared.
 use super::table;
 
-// The replies by their number (0 to 22), and the sums below.
-pub type Tally = [u64; 40];
+// The replies by their number (0 to 36), and the sums below.
+pub type Tally = [u64; 64];
 
 // The line of the input, and how many comparisons there were and failed, in all and in this part.
-const LINE: usize = 23;
+const LINE: usize = 40;
 
-const COMPARED: usize = 24;
+const COMPARED: usize = 41;
 
-const FAILED: usize = 25;
+const FAILED: usize = 42;
 
-const COMPARED_HERE: usize = 26;
+const COMPARED_HERE: usize = 43;
 
-const FAILED_HERE: usize = 27;
+const FAILED_HERE: usize = 44;
 
 // How many nodes, pairs and rows were in the results.
-pub const NODES: usize = 28;
+pub const NODES: usize = 45;
 
-pub const PAIRS: usize = 29;
+pub const PAIRS: usize = 46;
 
-pub const ROWS: usize = 30;
+pub const ROWS: usize = 47;
 
 // How many pages were accepted and refused.
-pub const PAGES: usize = 31;
+pub const PAGES: usize = 48;
 
-pub const REFUSED: usize = 32;
+pub const REFUSED: usize = 49;
 
 // How many lists of answers had gaps, no row, and every row.
-pub const GAPS: usize = 33;
+pub const GAPS: usize = 50;
 
-pub const EMPTY: usize = 34;
+pub const EMPTY: usize = 51;
 
-pub const FULL: usize = 35;
+pub const FULL: usize = 52;
 
 // The kinds and the axes in the queries of lists with gaps: bit k for number k.
-pub const KINDS: usize = 36;
+pub const KINDS: usize = 53;
 
-pub const AXES: usize = 37;
+pub const AXES: usize = 54;
+
+// How many damaged indexes were refused and how many were not, and for how many of these the answer was another.
+pub const BROKEN: usize = 55;
+
+pub const UNSEEN: usize = 56;
+
+pub const CHANGED: usize = 57;
 
 pub fn add(tally: &mut Tally, at: usize, more: u64) {
-    if at < 40 {
+    if at < 64 {
         let sum = std::num::wrapping_add_u64(tally[at], more);
         tally[at] = sum;
     }
@@ -48,7 +55,7 @@ pub fn add(tally: &mut Tally, at: usize, more: u64) {
 
 // Number k, below 13, was met.
 pub fn meet(tally: &mut Tally, at: usize, k: usize) {
-    if at < 40 {
+    if at < 64 {
         if k < 13 {
             let bits = tally[at] | (1 << k);
             tally[at] = bits;
@@ -57,13 +64,13 @@ pub fn meet(tally: &mut Tally, at: usize, k: usize) {
 }
 
 fn clear(tally: &mut Tally, at: usize) {
-    if at < 40 {
+    if at < 64 {
         tally[at] = 0;
     }
 }
 
 fn sum_at(tally: &Tally, at: usize) -> u64 {
-    if at < 40 {
+    if at < 64 {
         return tally[at];
     }
     0
@@ -164,6 +171,23 @@ pub fn expect_gaps(tally: &mut Tally, some: usize, of: usize) {
     expect(tally, sum_at(tally, AXES) == 8191);
 }
 
+// One of these sums is not 0, and no less than some of so many damaged indexes.
+fn expect_share(tally: &mut Tally, at: usize, some: usize, of: usize) {
+    let part = sum_at(tally, at);
+    let whole = std::num::wrapping_add_u64(sum_at(tally, BROKEN), sum_at(tally, UNSEEN));
+    let least = table::times(some, whole as usize);
+    expect(
+        tally,
+        (0 < part) & (least <= table::times(of, part as usize)),
+    );
+}
+
+// Of the damaged indexes no fewer than some of so many were refused, and as many were not and gave another answer.
+pub fn expect_damage(tally: &mut Tally, some: usize, of: usize) {
+    expect_share(tally, BROKEN, some, of);
+    expect_share(tally, CHANGED, some, of);
+}
+
 // The line for the part that ends here.
 fn show_part(tally: &mut Tally) {
     show_number(sum_at(tally, COMPARED_HERE), b" compared, ");
@@ -199,7 +223,7 @@ fn show_reply(tally: &Tally, number: usize) {
 
 fn show_replies(tally: &Tally) {
     let mut number = 0;
-    while number < 23 {
+    while number < 37 {
         show_reply(tally, number);
         number += 1;
     }
@@ -225,6 +249,9 @@ pub fn show_all(tally: &Tally) {
     show_found(tally, GAPS, b"lists with gaps: ");
     show_found(tally, EMPTY, b"lists of no row: ");
     show_found(tally, FULL, b"lists of every row: ");
+    show_found(tally, BROKEN, b"damaged indexes refused: ");
+    show_found(tally, UNSEEN, b"damaged indexes not refused: ");
+    show_found(tally, CHANGED, b"of these with another answer: ");
     io::write_all(1, b"in all: ");
     show_number(sum_at(tally, COMPARED), b" compared, ");
     show_number(sum_at(tally, FAILED), b" failed\n");

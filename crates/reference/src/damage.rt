@@ -13,7 +13,7 @@ fn reply(number: usize, place: usize) -> model::Reply {
 }
 
 // A tree ends within a node, a node is its own parent, or its tag is reserved.
-fn in_tree(seed: &mut u64, tree: &mut table::Table) -> model::Reply {
+pub fn in_tree(seed: &mut u64, tree: &mut table::Table) -> model::Reply {
     let x = random::below(seed, table::size(tree));
     let parent = std::num::wrapping_add_usize(x, x);
     let tag = std::num::wrapping_add_usize(parent, 1);

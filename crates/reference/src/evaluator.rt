@@ -41,7 +41,7 @@ fn is_child(tree: &[u16], x: usize, y: usize) -> bool {
 }
 
 // Steps up from y meet x.
-fn is_descendant(tree: &[u16], x: usize, y: usize) -> bool {
+pub fn is_descendant(tree: &[u16], x: usize, y: usize) -> bool {
     let mut z = y;
     let mut i: usize = 0;
     while i < 256 {

@@ -1,7 +1,12 @@
 // The test program's own evaluator, written separately from the engine, straight from document 01: pairs, images, answers, and
-// the pages that are due; the random trees, queries and sets that the engine is tried on; and what is refused instead of them.
+// the pages that are due; the index of a tree and what is found by one, from document 02; the random trees, queries and sets that
+// the engine is tried on; and what is refused instead of them.
 pub mod damage;
 pub mod evaluator;
+pub mod index_damage;
+pub mod indexing;
 pub mod listing;
 pub mod random;
+pub mod searching;
 pub mod steer;
+pub mod tagging;

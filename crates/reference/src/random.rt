@@ -33,7 +33,7 @@ pub fn between(seed: &mut u64, least: usize, most: usize) -> usize {
 }
 
 // The node that so many steps up from x lead to, or the root.
-fn climbed(tree: &table::Table, x: usize, steps: usize) -> usize {
+pub fn climbed(tree: &table::Table, x: usize, steps: usize) -> usize {
     let mut z = x;
     let mut i = 0;
     while i < steps {
@@ -67,7 +67,7 @@ fn put_node(seed: &mut u64, tree: &mut table::Table, x: usize, steps: usize) {
 }
 
 // A tree of n nodes.
-fn make_tree(seed: &mut u64, tree: &mut table::Table, n: usize) {
+pub fn make_tree(seed: &mut u64, tree: &mut table::Table, n: usize) {
     table::set_length(tree, std::num::wrapping_add_usize(n, n));
     let steps = between(seed, 1, 6);
     let mut x = 0;

@@ -6,6 +6,8 @@ ghost use Rattle.model.specs.Refusals.{verdict};
 ghost use Rattle.model.specs.Checks.{treeChecks, queryChecks};
 ghost use Rattle.model.specs.Services.{ImageLeaves, PairsLeave};
 ghost use Rattle.model.specs.Services.{pageOutcome, PageLeaves};
+ghost use Rattle.index.specs.Index.{IndexLeaves};
+ghost use Rattle.lookup.specs.Chain.{LookupLeaves};
 ghost use Rattle.names.specs.Names.{nameChecks, partFor, IsPart};
 ghost use Rattle.reader.specs.Read.{ReadLeaves};
 
@@ -100,6 +102,36 @@ pub extern "C" fn gz_page(
         ⌝ }
 {
     answers::page(tree, query, columns as usize, cursor, rows)
+}
+
+// The index of a tree, and the list of its tags.
+#[no_mangle]
+pub extern "C" fn gz_index(tree: &[u16], next: &mut [u16], tags: &mut [u16]) -> index::IndexReply
+    ensures { λ r.
+        ⌜
+        IndexLeaves (now (tree .entry)) (now (next .entry)) (now (tags .entry))
+        r (now (next .exit)) (now (tags .exit))
+        ⌝ }
+{
+    index::build(tree, next, tags)
+}
+
+// The descendants of a node that have a tag, by an index that is lent, and how many they are.
+#[no_mangle]
+pub extern "C" fn gz_descendants(
+    tree: &[u16],
+    next: &[u16],
+    start: u16,
+    tag: u16,
+    to: &mut [u8],
+) -> model::ImageReply
+    ensures { λ r.
+        ⌜
+        LookupLeaves (now (tree .entry)) (now (next .entry)) start tag (now (to .entry))
+        r (now (to .exit))
+        ⌝ }
+{
+    lookup::descendants(tree, next, start, tag, to)
 }
 
 // The name of a tag, as a part of the table that holds it.

@@ -1,4 +1,5 @@
-// The check of a tree table (refusals 5 to 7), and the links that evaluation walks. Both take time linear in the table's length.
+// The check of a tree table (refusals 5 to 7), the numbers of a node, and the links that evaluation walks. The check and the links
+// take time linear in the table's length.
 ghost use mathlib.Core.Path.{_≡_};
 ghost use mathlib.Core.Bool.{false};
 ghost use Prim.Native.Nat.{_<_};
@@ -19,11 +20,19 @@ fn is_bad_tree_length(l: usize) -> bool
 }
 
 // The parent of node x.
-fn parent(tree: &[u16], x: usize) -> usize
+pub fn parent(tree: &[u16], x: usize) -> usize
     requires { ⌜ x < sizeOf (now tree) ⌝ }
     ensures { λ r. ⌜ r ≡ treeOf (now (tree .entry)) .parent x ⌝ }
 {
     model::wide(tree[2 * x])
+}
+
+// The tag of node x.
+pub fn tag(tree: &[u16], x: usize) -> u16
+    requires { ⌜ x < sizeOf (now tree) ⌝ }
+    ensures { λ r. ⌜ r ≡ treeOf (now (tree .entry)) .tag x ⌝ }
+{
+    tree[2 * x + 1]
 }
 
 // Whether y is x or a descendant of x. Up to y every parent comes before its node, so the climb from y stops at the first
@@ -56,7 +65,7 @@ fn is_bad_tag(tree: &[u16], x: usize) -> bool
     requires { ⌜ x < sizeOf (now tree) ⌝ }
     ensures { λ r. ⌜ r ≡ badTag (treeOf (now (tree .entry))) x ⌝ }
 {
-    65533 < tree[2 * x + 1]
+    65533 < tag(tree, x)
 }
 
 // Whether node x fails the check of refusal k, 6 or 7, where no node before it does.

@@ -27,7 +27,7 @@ pub struct Call {
 }
 
 // A reply that no service gives.
-fn no_reply() -> model::ImageReply {
+pub fn no_reply() -> model::ImageReply {
     model::ImageReply {
         number: 65535,
         place: 65535,

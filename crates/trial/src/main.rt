@@ -2,9 +2,12 @@
 // part made and how many of them failed; a comparison that fails has a line of its own. The input says what a line holds.
 mod call;
 mod compare;
+mod indexes;
+mod lookups;
 mod pages;
 mod paging;
 mod run;
+mod searches;
 
 fn main() {
     let mut text = io::large_buffer();

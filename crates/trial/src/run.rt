@@ -1,8 +1,11 @@
 // The checks of the input, by the first letter of their line. A check of a table also makes it the present one.
 use super::call;
 use super::compare;
+use super::indexes;
+use super::lookups;
 use super::pages;
 use super::paging;
+use super::searches;
 use harness::chains;
 use harness::line;
 use harness::table;
@@ -83,7 +86,7 @@ fn run_table(
     }
 }
 
-// One random tree and query.
+// One random tree, with a query or an index.
 fn run_one(
     tally: &mut tally::Tally,
     seed: &mut u64,
@@ -95,11 +98,16 @@ fn run_one(
         compare::run(tally, seed, line, pairs);
         return;
     }
+    if letter == b's' {
+        searches::run(tally, seed, line);
+        return;
+    }
     paging::run(tally, seed, line, pairs);
 }
 
 // random SEED COUNT | LEAST MOST ENTRIES: so many trees, of LEAST to MOST nodes, and queries from a seed
 // walks SEED COUNT | LEAST MOST ENTRIES | LEAST MOST: as random, with LEAST to MOST variables
+// searches SEED COUNT | LEAST MOST TIMES: so many trees, of LEAST to MOST nodes, and TIMES searches of every sort in each
 fn run_random(tally: &mut tally::Tally, line: &line::Line, letter: u8) {
     let mut pairs = [0u8; 4194304];
     let mut seed = line::number(line, 0, 0) as u64;
@@ -111,7 +119,7 @@ fn run_random(tally: &mut tally::Tally, line: &line::Line, letter: u8) {
     }
 }
 
-// The lines that call an evaluation or a page, on the present tables or on random ones.
+// The lines that call an evaluation, a page or a search on the present tables.
 fn run_call(
     tally: &mut tally::Tally,
     tree: &table::Table,
@@ -127,12 +135,28 @@ fn run_call(
         pages::run(tally, tree, query, line);
         return;
     }
-    if letter == b'g' {
-        tally::expect_gaps(tally, line::number(line, 0, 0), line::number(line, 0, 1));
+    if letter == b'i' {
+        indexes::run(tally, tree, line);
         return;
     }
-    if (letter == b'r') | (letter == b'w') {
+    if letter == b'd' {
+        lookups::run(tally, tree, line);
+    }
+}
+
+// The lines that compare on random tables, and those that say how many of these were of some sort.
+fn run_many(tally: &mut tally::Tally, line: &line::Line, letter: u8) {
+    if (letter == b'r') | (letter == b'w') | (letter == b's') {
         run_random(tally, line, letter);
+        return;
+    }
+    let some = line::number(line, 0, 0);
+    let of = line::number(line, 0, 1);
+    if letter == b'g' {
+        tally::expect_gaps(tally, some, of);
+    }
+    if letter == b'u' {
+        tally::expect_damage(tally, some, of);
     }
 }
 
@@ -157,11 +181,12 @@ fn run_line(
     }
     run_table(tally, tree, query, &line, letter);
     run_call(tally, tree, query, &line, letter);
+    run_many(tally, &line, letter);
     next
 }
 
 pub fn run_all(text: &[u8]) {
-    let mut tally = [0u64; 40];
+    let mut tally = [0u64; 64];
     let mut tree = [0u16; 1025];
     let mut query = [0u16; 1025];
     let mut at = 0;

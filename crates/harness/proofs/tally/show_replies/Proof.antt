@@ -8,7 +8,7 @@ abbrev Inv-loop : tie.InvT-loop
 Inv-loop tally number₀ number = Unit {0}
 
 abbrev μ-loop : tie.MeasureT-loop
-μ-loop tally number₀ number = 23 - number
+μ-loop tally number₀ number = 37 - number
 
 loop-holds : tie.Need-loop-holds Inv-loop μ-loop
 loop-holds c = search needs

@@ -1,0 +1,12 @@
+pub mod Chains
+pub mod First
+pub mod Halving
+pub mod Linking
+pub mod Numbers
+pub mod Ordering
+pub mod Present
+pub mod Putting
+pub mod Results
+pub mod Totals
+pub mod Verdicts
+pub mod Worked

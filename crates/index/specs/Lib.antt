@@ -1,0 +1,4 @@
+pub mod Following
+pub mod Index
+pub mod Parts
+pub mod Worked

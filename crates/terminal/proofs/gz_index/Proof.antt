@@ -1,0 +1,18 @@
+use borrow.Author.Needs.{needs}
+use Rattle.terminal.proofs.gz_index.Statement.{statement}
+use Rattle.terminal.proofs.gz_index.Tie as tie
+
+build-requires : tie.Need-build-requires
+build-requires c κs = search needs
+
+same-length : tie.Need-same-length
+same-length c = search needs
+
+same-length-2 : tie.Need-same-length-2
+same-length-2 c = search needs
+
+returns : tie.Need-returns
+returns c = search needs
+
+pub gz-index-spec : {M : Type 1} → statement M
+gz-index-spec = tie.close (tie.spec build-requires same-length same-length-2 returns)
