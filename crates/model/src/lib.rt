@@ -10,8 +10,8 @@ pub struct Reply {
     pub place: u16,
 }
 
-// The reply to forwards and backwards: number and place, and how many nodes the result has (document 02: the count); 0 of a
-// refused call.
+// The reply to forwards, backwards and descendants: number and place, and how many nodes the result has (document 02: the count);
+// 0 of a refused call.
 #[repr(C)]
 pub struct ImageReply {
     pub number: u16,
@@ -75,7 +75,7 @@ pub fn reply_at(number: u16, place: usize) -> Reply
     }
 }
 
-// A verdict as the reply to forwards or backwards, with a number of nodes.
+// A verdict as such a reply, with a number of nodes.
 pub fn image_reply(v: Reply, count: usize) -> ImageReply
     ensures { λ r. ⌜ r ≡ counting v count ⌝ }
 {
