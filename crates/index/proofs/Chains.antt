@@ -1,21 +1,20 @@
 -- Following the index from a tag's first node meets exactly the nodes that have it, as many as its count.
 use Prim.Native.Nat.{ℕ, zero, suc, _+_, _*_, _≤_, _<_}
-use native.Mathlib.Nat.{add-zero, eq-or-lt-of-le}
+use native.Mathlib.Nat.{add-zero}
 use native.Mathlib.Omega.{arith}
 use mathlib.Core.Path.{_≡_, refl, sym, ap, _∙_}
-use mathlib.Core.Logic.{_⊎_, ⊎-elim, _↔_}
-use mathlib.Core.Bool.{cond}
+use mathlib.Core.Logic.{_⊎_}
 use mathlib.Core.List.{List, [], _∷_}
 use lib.ListN.{length, getD}
-use lib.Dec.{ltb, eqb}
+use lib.Dec.{ltb}
 use borrow.Author.Tests.{ltb-true, ltb-false, ne-eqb}
 use Rattle.model.specs.Tree.{Tree}
 use Rattle.model.proofs.Booleans.{Seen, yes!, no!, seen}
-use Rattle.model.proofs.Counts.{Among, Ascending}
+use Rattle.model.proofs.Counts.{Among}
 use Rattle.index.specs.Index.{firstFrom, indexOf, present, tagList}
 use Rattle.index.specs.Parts.{Tagged, countFrom}
 use Rattle.index.specs.Following.{trail, Bearers}
-use Rattle.index.proofs.First.{first-here, first-next, first-past}
+use Rattle.index.proofs.First.{after-other, first-here, first-next, first-past}
 use Rattle.index.proofs.Numbers.{index-at, count-here, count-next, count-past, count-whole, tag-list-at}
 
 module _ (t : Tree) (s : Tagged t) (tag : ℕ) where
@@ -53,13 +52,10 @@ module _ (t : Tree) (s : Tagged t) (tag : ℕ) where
     ascending = b .ascending;
     member = λ y. (
       λ h. let w = b .member y .0 h in (omega (arith, w .0), w .1, w .2),
-      λ w. b .member y .1 (later y (w .0) (w .2), w .1, w .2),
+      λ w. b .member y .1 (after-other t tag x y ne (w .0) (w .2), w .1, w .2),
     );
     many = b .many;
   }
-    where
-      later : (y : ℕ) → x ≤ y → t .tag y ≡ tag → suc x ≤ y
-      later y m e = ⊎-elim (λ q. absurd (ne (rw q e))) (λ q. q) (eq-or-lt-of-le m)
 
   -- x is beyond the last node
   beyond : (k x : ℕ) → t .size ≤ x → Bearers t tag x (trail (indexOf t) k (firstFrom t tag x)) (countFrom t tag x)

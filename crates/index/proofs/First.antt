@@ -11,7 +11,7 @@ use Rattle.model.specs.Sets.{any}
 use Rattle.model.specs.Tree.{Tree}
 use Rattle.model.specs.Refusals.{lowest}
 use Rattle.model.proofs.Booleans.{Seen, yes!, no!, seen, no-yes, yes-left, yes-right, not-yes}
-use Rattle.model.proofs.Exists.{any-intro, any-elim, none-of, lowest-at, lowest-less, lowest-bad, none-lower}
+use Rattle.model.proofs.Exists.{any-intro, any-never, none-of, lowest-at, lowest-less, lowest-bad, none-lower}
 use Rattle.index.specs.Index.{hasFrom, firstFrom}
 
 module _ (t : Tree) (g : ℕ) where
@@ -59,18 +59,20 @@ module _ (t : Tree) (g : ℕ) where
           node! (w .0) (lowest-less (t .size) (hasFrom t g x) p) (w .1) (λ z m l e. no-one (lowest (t .size) (hasFrom t g x)) x z (none-lower (t .size) (hasFrom t g x)) l m e))
       go (no! p) = rw p (none! refl (λ z m l e. no-one (t .size) x z p l m e))
 
+  -- none has the tag from x on and below n
+  none-from : (n x : ℕ) → ((z : ℕ) → x ≤ z → z < n → t .tag z ≡ g → ⊥) → any n (hasFrom t g x) ≡ false
+  none-from n x h = any-never n (hasFrom t g x) (λ z k. not-yes (hasFrom t g x z) (λ q. let w = from-is x z q in h z (w .0) k (w .1)))
+
   -- and it is the only such number
   pub first-only : (x y : ℕ) → First x y → firstFrom t g x ≡ y
-  first-only x y (node! m l e h) =
-      first-at x y
-      (not-yes (any y (hasFrom t g x)) (λ p. let (z, k, q) = any-elim y (hasFrom t g x) p in let w = from-is x z q in h z (w .0) k (w .1)))
-      (from-yes x y m e) l
-  first-only x y (none! e h) =
-      first-none x
-      (not-yes (any (t .size) (hasFrom t g x)) (λ p. let (z, k, q) = any-elim (t .size) (hasFrom t g x) p in let w = from-is x z q in h z (w .0) k (w .1)))
-      ∙ sym e
+  first-only x y (node! m l e h) = first-at x y (none-from y x h) (from-yes x y m e) l
+  first-only x y (none! e h) = first-none x (none-from (t .size) x h) ∙ sym e
 
   -- a step of the search
+
+  -- a node that has the tag comes after x, where x has another
+  pub after-other : (x z : ℕ) → (t .tag x ≡ g → ⊥) → x ≤ z → t .tag z ≡ g → suc x ≤ z
+  after-other x z ne m e = ⊎-elim (λ q. absurd (ne (rw q e))) (λ q. q) (eq-or-lt-of-le m)
 
   pub first-here : (x : ℕ) → x < t .size → t .tag x ≡ g → firstFrom t g x ≡ x
   first-here x l e = first-only x x (node! (omega arith) l e (λ z m k q. absurd (omega arith)))
@@ -78,12 +80,9 @@ module _ (t : Tree) (g : ℕ) where
   pub first-next : (x : ℕ) → (t .tag x ≡ g → ⊥) → firstFrom t g x ≡ firstFrom t g (suc x)
   first-next x ne = first-only x (firstFrom t g (suc x)) (go (firstFrom t g (suc x)) (first-is (suc x)))
     where
-      later : (z : ℕ) → x ≤ z → t .tag z ≡ g → suc x ≤ z
-      later z m e = ⊎-elim (λ q. absurd (ne (rw q e))) (λ q. q) (eq-or-lt-of-le m)
-
       go : (y : ℕ) → First (suc x) y → First x y
-      go y (node! m l e h) = node! (omega arith) l e (λ z k j q. h z (later z k q) j q)
-      go y (none! e h) = none! e (λ z k j q. h z (later z k q) j q)
+      go y (node! m l e h) = node! (omega arith) l e (λ z k j q. h z (after-other x z ne k q) j q)
+      go y (none! e h) = none! e (λ z k j q. h z (after-other x z ne k q) j q)
 
   pub first-past : (x : ℕ) → t .size ≤ x → firstFrom t g x ≡ 65535
   first-past x l = first-only x 65535 (none! refl (λ z m k e. absurd (omega arith)))

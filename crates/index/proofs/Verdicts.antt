@@ -14,6 +14,7 @@ use Rattle.model.specs.declared.Reply.{Reply}
 use Rattle.model.proofs.Exists.{none-of}
 use Rattle.model.proofs.Refusals.{Passes, numbered, accepted, stop-all, pass-all, written-over}
 use Rattle.model.proofs.Accepted.{tree-ordered, tree-numbered}
+use Rattle.checks.proofs.Verdicts.{zero-of}
 use Rattle.index.specs.declared.IndexReply.{IndexReply}
 use Rattle.index.specs.Index.{firstFrom, present, tagList, buffersChecks, indexChecks, telling, ifAccepted, Leaves}
 use Rattle.index.specs.Parts.{Tagged, countFrom, Each}
@@ -25,7 +26,7 @@ use Rattle.index.proofs.Totals.{tags-most}
 pub tree-tagged : (t : List ℕ) (v : Reply) → v ≡ verdict (treeChecks t) → v .number ≡ 0 → Tagged (treeOf t)
 unfolding treeChecks Passes
 tree-tagged t v p z =
-    let w : Passes (treeChecks t) = accepted (treeChecks t) (tree-numbered t) (ap (λ (r : Reply). r .number) (sym p) ∙ z) in
+    let w : Passes (treeChecks t) = accepted (treeChecks t) (tree-numbered t) (zero-of (treeChecks t) v p z) in
     record {
       at-most = tree-ordered t w .sound .at-most;
       tags = λ x l. let m = ltb-false 65533 (treeOf t .tag x) (none-of (sizeOf t) (badTag (treeOf t)) x (w .1 .1 .0) l) in omega arith;
@@ -74,7 +75,7 @@ buffers-verdict t next tags list v p e = p ∙ ap (λ (l : List ℕ). verdict (r
 module _ (next n tags needed : ℕ) (v : Reply) (p : v ≡ verdict (roomChecks next n ++ roomChecks tags needed)) (z : v .number ≡ 0) where
   rooms-pass : Passes (roomChecks next n ++ roomChecks tags needed)
   unfolding roomChecks numbered
-  rooms-pass = accepted (roomChecks next n ++ roomChecks tags needed) refl (ap (λ (r : Reply). r .number) (sym p) ∙ z)
+  rooms-pass = accepted (roomChecks next n ++ roomChecks tags needed) refl (zero-of (roomChecks next n ++ roomChecks tags needed) v p z)
 
   pub next-fits : n ≤ next
   unfolding roomChecks Passes

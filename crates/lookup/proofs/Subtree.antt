@@ -4,7 +4,7 @@ use native.Mathlib.Nat.{eq-or-lt-of-le}
 use native.Mathlib.Omega.{arith}
 use mathlib.Core.Path.{_≡_, sym, ap, _∙_}
 use mathlib.Core.Logic.{_⊎_, ⊎-elim, _↔_, Iff·rfl}
-use mathlib.Core.Bool.{Bool, true, false, not}
+use mathlib.Core.Bool.{true, false, not}
 use lib.Dec.{ltb, eqb}
 use borrow.Author.Tests.{ltb-true, ltb-false, lt-ltb, le-ltb, not-false}
 use Rattle.model.specs.Sets.{any}
@@ -13,12 +13,8 @@ use Rattle.model.specs.Axes.{descendant, following, descendantOrSelf, axis}
 use Rattle.model.specs.Refusals.{lowest}
 use Rattle.model.specs.Accepted.{Sound, Ordered}
 use Rattle.model.proofs.Booleans.{Seen, yes!, no!, seen, no-yes, not-yes, guarded, or-says, eqb-says}
-use Rattle.model.proofs.Exists.{any-elim, none-of, lowest-none, lowest-less, lowest-found, lowest-bad, none-lower}
+use Rattle.model.proofs.Exists.{any-never, none-of, lowest-none, lowest-less, lowest-found, lowest-bad, none-lower}
 use Rattle.model.proofs.Axes.{sound-falling, descendant-step, descendant-after, following-axis}
-
--- no number below n passes, where each is known to fail
-pub any-never : (n : ℕ) (f : ℕ → Bool) → ((k : ℕ) → k < n → f k ≡ false) → any n f ≡ false
-any-never n f h = not-yes (any n f) (λ p. let (k, l, q) = any-elim n f p in no-yes (h k l) q)
 
 module _ (t : Tree) (s : Sound t) where
   -- descendants by their parents

@@ -8,11 +8,10 @@ use borrow.Author.Tests.{ltb-true, lt-ltb, le-ltb, eqb-true, eq-eqb, ne-eqb, not
 use Rattle.model.specs.Sets.{any}
 use Rattle.model.specs.Tree.{Tree}
 use Rattle.model.proofs.Booleans.{Seen, yes!, no!, seen, no-or, guarded}
-use Rattle.model.proofs.Exists.{any-end}
+use Rattle.model.proofs.Exists.{any-never, any-end}
 use Rattle.index.specs.Index.{has, hasFrom, firstFrom}
 use Rattle.index.proofs.First.{First, from-early, first-at, first-none, first-is}
 use Rattle.lookup.specs.Chain.{wrong}
-use Rattle.lookup.proofs.Subtree.{any-never}
 
 module _ (t : Tree) (tag x : ℕ) where
   pub tag-start : any (x + 1) (hasFrom t tag (suc x)) ≡ false

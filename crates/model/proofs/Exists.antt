@@ -10,7 +10,7 @@ use lib.Dec.{eqb}
 use borrow.Author.Tests.{eq-eqb, eqb-true}
 use Rattle.model.specs.Sets.{any}
 use Rattle.model.specs.Refusals.{lowest}
-use Rattle.model.proofs.Booleans.{no-yes, bool-ext, both-yes, yes-left, yes-right, or-left, or-right, or-cases, no-or}
+use Rattle.model.proofs.Booleans.{no-yes, bool-ext, both-yes, yes-left, yes-right, or-left, or-right, or-cases, not-yes, no-or}
 
 -- any is 'there is one'
 
@@ -32,6 +32,10 @@ pub any-cong : (n : ℕ) (f g : ℕ → Bool) → ((x : ℕ) → x < n → f x �
 unfolding any
 any-cong zero f g h = refl
 any-cong (suc n) f g h = rw (h n (omega arith), any-cong n f g (λ x l. h x (omega arith)))
+
+-- no number below n passes, where each is known to fail
+pub any-never : (n : ℕ) (f : ℕ → Bool) → ((x : ℕ) → x < n → f x ≡ false) → any n f ≡ false
+any-never n f h = not-yes (any n f) (λ p. let (x, l, q) = any-elim n f p in no-yes (h x l) q)
 
 -- for the reader: the test any n f holds exactly if some x below n passes f
 pub any-iff : (n : ℕ) (f : ℕ → Bool) → (any n f ≡ true) ↔ ((x : ℕ) × (x < n) × (f x ≡ true))
