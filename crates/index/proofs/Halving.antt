@@ -3,13 +3,13 @@ use Prim.Native.Nat.{ℕ, _+_, _-_, _/_, _≤_, _<_}
 use native.Mathlib.Nat.{eq-or-lt-of-le}
 use native.Mathlib.Omega.{arith}
 use mathlib.Core.Path.{_≡_, ap, _∙_}
-use mathlib.Core.Logic.{_⊎_, ⊎-elim}
+use mathlib.Core.Logic.{⊎-elim}
 use mathlib.Core.Bool.{Bool, true, false, cond}
 use mathlib.Core.List.{List}
 use lib.ListN.{length, getD}
 use lib.Dec.{ltb}
 use borrow.Author.Tests.{ltb-true, ltb-false}
-use Rattle.model.proofs.Booleans.{Seen, yes!, no!, seen}
+use Rattle.model.proofs.Booleans.{Seen, yes!, no!, seen, lt-or-le}
 use Rattle.index.specs.Parts.{Rising, Holds}
 
 -- the number is in the list, from low on and below high
@@ -19,13 +19,6 @@ pub record Within (list : List ℕ) (g low high : ℕ) : Type 0 where
   pub some : low < high
   pub most : high ≤ length list
   pub between : (k : ℕ) → k < length list → getD list k 0 ≡ g → (low ≤ k) × (k < high)
-
-pub sides : (k m : ℕ) → (k < m) ⊎ (m ≤ k)
-sides k m = at (seen (ltb k m))
-  where
-    at : Seen (ltb k m) → (k < m) ⊎ (m ≤ k)
-    at (yes! p) = _⊎_.inl (ltb-true k m p)
-    at (no! p) = _⊎_.inr (ltb-false k m p)
 
 module _ (list : List ℕ) (g : ℕ) where
   pub within-start : Rising list → Holds list g → Within list g 0 (length list)
@@ -45,7 +38,7 @@ module _ (list : List ℕ) (g : ℕ) where
       holds = w .holds;
       some = omega arith;
       most = let m = w .most in omega arith;
-      between = λ k m e. let (a, b) = w .between k m e in (a, ⊎-elim (λ q. q) (λ q. let z = no-less (w .rising) middle k q m in absurd (omega arith)) (sides k middle));
+      between = λ k m e. let (a, b) = w .between k m e in (a, ⊎-elim (λ q. q) (λ q. let z = no-less (w .rising) middle k q m in absurd (omega arith)) (lt-or-le k middle));
     }
 
     upper : getD list middle 0 ≤ g → Within list g middle high
@@ -54,7 +47,7 @@ module _ (list : List ℕ) (g : ℕ) where
       holds = w .holds;
       some = omega arith;
       most = w .most;
-      between = λ k m e. let (a, b) = w .between k m e in (⊎-elim (λ q. let z = w .rising .rises k middle q middle-fits in absurd (omega arith)) (λ q. q) (sides k middle), b);
+      between = λ k m e. let (a, b) = w .between k m e in (⊎-elim (λ q. let z = w .rising .rises k middle q middle-fits in absurd (omega arith)) (λ q. q) (lt-or-le k middle), b);
     }
 
     module _ (above : Bool) (low' high' : ℕ) (test : above ≡ ltb g (getD list middle 0)) (l : low' ≡ cond above low middle) (h : high' ≡ cond above middle high) where

@@ -8,6 +8,7 @@ use lib.ListN.{length, drop, set, getD, length-append, length-drop, length-set, 
 use lib.Seq.{ext-getD, getD-set-same, getD-set-other, getD-append-add, getD-drop}
 use Rattle.model.specs.Sets.{tab}
 use Rattle.model.specs.Tree.{Tree}
+use Rattle.model.proofs.Booleans.{lt-or-le}
 use Rattle.model.proofs.Exists.{any-intro}
 use Rattle.model.proofs.Bytes.{length-tab}
 use Rattle.model.proofs.Counts.{ones-most}
@@ -15,7 +16,6 @@ use borrow.Author.Tests.{eq-eqb}
 use Rattle.index.specs.Index.{has, hasFrom, firstFrom, indexOf, present}
 use Rattle.index.specs.Parts.{Tagged, Rising, Holds, countFrom, Each}
 use Rattle.index.proofs.First.{first-here, first-next}
-use Rattle.index.proofs.Halving.{sides}
 use Rattle.index.proofs.Present.{present-rising, present-holds}
 use Rattle.index.proofs.Numbers.{index-length, index-at, count-here, count-next}
 
@@ -25,7 +25,7 @@ each-next : (F : ℕ → ℕ → ℕ) (list values : List ℕ) (x k v : ℕ) →
 each-next F list values x k v r l other e w = record { long = rw (length-set values k v) (w .long); at = λ j m. at j m (native.Mathlib.Decide.ℕ-discrete j k) }
   where
     apart : (j : ℕ) → j < length list → (j ≡ k → ⊥) → getD list k 0 ≡ getD list j 0 → ⊥
-    apart j m ne q = ⊎-elim (λ h. let z = r .rises j k h l in omega arith) (λ h. let z = r .rises k j (omega arith) m in omega arith) (sides j k)
+    apart j m ne q = ⊎-elim (λ h. let z = r .rises j k h l in omega arith) (λ h. let z = r .rises k j (omega arith) m in omega arith) (lt-or-le j k)
 
     at : (j : ℕ) → j < length list → Dec (j ≡ k) → getD (set values k v) j 0 ≡ F (getD list j 0) x
     at j m (yes q) = rw q (getD-set-same values k v 0 (let z = w .long in omega arith) ∙ e)
@@ -137,7 +137,7 @@ module _ (t : Tree) (list next₀ first₀ counts₀ : List ℕ) where
     linking-counted z = rw (let e : 0 ≡ i = omega arith in e) (w .counted)
 
     pub linking-whole : i ≤ 0 → next ≡ indexOf t ++ drop (t .size) next₀
-    linking-whole z = ext-getD 0 next (indexOf t ++ drop (t .size) next₀) (w .same-next ∙ sym size) (λ y l. at y l (sides y (t .size)))
+    linking-whole z = ext-getD 0 next (indexOf t ++ drop (t .size) next₀) (w .same-next ∙ sym size) (λ y l. at y l (lt-or-le y (t .size)))
       where
         size : length (indexOf t ++ drop (t .size) next₀) ≡ length next₀
         size = length-append (indexOf t) (drop (t .size) next₀) ∙ rw (index-length t, length-drop (t .size) next₀) (let f = w .fits in omega arith)

@@ -1,21 +1,18 @@
 -- From the nodes of a walk to what the service leaves, and the answer over the tree's own index.
 use Prim.Native.Nat.{ℕ, _≤_, _<_}
-use native.Mathlib.Omega.{arith}
 use mathlib.Core.Path.{_≡_, refl, sym, ap, _∙_, subst}
 use mathlib.Core.Bool.{Bool, true, false, _&&_, _||_, cond, or-assoc, or-comm, or-false}
 use mathlib.Core.List.{List, _++_}
-use lib.Dec.{ltb, eqb}
-use lib.ListN.{length, getD, set, drop, replicate, length-set, length-replicate, getD-replicate}
-use lib.Seq.{getD-set-same, getD-set-other}
+use lib.Dec.{eqb}
+use lib.ListN.{length, set, drop, replicate}
 use borrow.Author.Tests.{ltb-false, lt-ltb, le-ltb, eq-eqb, ne-eqb}
 use Rattle.model.specs.declared.ImageReply.{ImageReply}
-use Rattle.model.specs.Sets.{bit, tab, ones, memb, upto}
+use Rattle.model.specs.Sets.{tab, ones, memb, upto}
 use Rattle.model.specs.Tree.{treeOf, sizeOf}
 use Rattle.model.specs.Axes.{descendant}
 use Rattle.model.specs.Refusals.{reply, counting, verdict, written}
 use Rattle.model.specs.Checks.{treeChecks, roomChecks}
-use Rattle.model.proofs.Booleans.{bool-ext, both-yes, yes-right}
-use Rattle.model.proofs.Bytes.{length-tab, getD-tab, tab-of, tab-cong, tab-front, fill-end}
+use Rattle.model.proofs.Bytes.{length-tab, tab-cong, tab-front, fill-end, tab-none, tab-set, tab-below}
 use Rattle.model.proofs.Counts.{ones-front, ones-bytes}
 use Rattle.model.proofs.Refusals.{Passes, Passes-front, numbered, accepted, none-refused, pass-all, counts-none, counts-some, written-not, written-over}
 use Rattle.model.proofs.Accepted.{tree-ordered, tree-numbered}
@@ -30,31 +27,21 @@ use Rattle.lookup.proofs.Verdicts.{tree-accepted}
 
 -- the bytes of a walk
 
--- one byte more is 1
-mark : (n : ℕ) (S : ℕ → Bool) (y : ℕ) → set (tab n S) y 1 ≡ tab n (λ k. eqb k y || S k)
-mark n S y = tab-of n (λ k. eqb k y || S k) (set (tab n S) y 1) (length-set (tab n S) y 1 ∙ length-tab n S) at
-  where
-    at : (k : ℕ) → k < n → getD (set (tab n S) y 1) k 0 ≡ bit (eqb k y || S k)
-    at k l = go (native.Mathlib.Decide.ℕ-discrete k y)
-      where
-        go : Dec (k ≡ y) → getD (set (tab n S) y 1) k 0 ≡ bit (eqb k y || S k)
-        go (yes p) = rw (eq-eqb k y p, p) (getD-set-same (tab n S) y 1 0 (omega (arith, length-tab n S)))
-        go (no p) = rw (ne-eqb k y p) (getD-set-other (tab n S) y k 1 0 p ∙ getD-tab n S k l)
-
 along-nodes : (c : Chain) (s : List ℕ) (S : ℕ → Bool) → s ≡ tab 256 S → along c s .nodes ≡ tab 256 (λ k. isMet c k || S k)
 unfolding along isMet
 along-nodes stops s S p = p
 along-nodes (breaks y) s S p = p
 along-nodes (meets y c) s S p =
-    along-nodes c (set s y 1) (λ k. eqb k y || S k) (ap (λ (l : List ℕ). set l y 1) p ∙ mark 256 S y)
+    along-nodes c (set s y 1) (λ k. eqb k y || S k) (ap (λ (l : List ℕ). set l y 1) p ∙ tab-set 256 S (λ k. eqb k y || S k) y true (rw (eq-eqb y y refl)) (λ k ne. rw (ne-eqb k y ne)))
     ∙ tab-cong 256 _ _ (λ k l. sym (or-assoc (isMet c k) (eqb k y) (S k)) ∙ ap (λ (b : Bool). b || S k) (or-comm (isMet c k) (eqb k y)))
 
 -- a walk has the nodes that its chain meets, all of them below n
 walk-nodes : (c : Chain) (n : ℕ) → ((k : ℕ) → isMet c k ≡ true → k < n) → walkOf c .nodes ≡ tab 256 (upto n (isMet c))
-unfolding walkOf upto
+unfolding walkOf
 walk-nodes c n h =
-    along-nodes c (replicate 256 0) (λ k. false) (tab-of 256 (λ k. false) (replicate 256 0) (length-replicate {A = ℕ} 256 0) (λ k l. getD-replicate 256 k 0 0 l))
-    ∙ tab-cong 256 _ _ (λ k l. or-false (isMet c k) ∙ bool-ext (isMet c k) (ltb k n && isMet c k) (λ p. both-yes (lt-ltb k n (h k p)) p) (yes-right (ltb k n) (isMet c k)))
+    along-nodes c (replicate 256 0) (λ k. false) (tab-none 256 (λ k. false) (λ k. refl))
+    ∙ tab-cong 256 _ _ (λ k l. or-false (isMet c k))
+    ∙ tab-below 256 n (isMet c) h
 
 -- what an accepted call gives
 pub lookup-accepted : (t next : List ℕ) (start tag room : ℕ) (c : Chain) (w : Walk) → Judged (lookupChecks t next start tag room) c w → w .verdict .number ≡ 0

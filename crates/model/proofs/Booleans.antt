@@ -1,10 +1,10 @@
 -- Laws of Boolean tests.
-use Prim.Native.Nat.{ℕ, _<_}
+use Prim.Native.Nat.{ℕ, _≤_, _<_}
 use mathlib.Core.Path.{_≡_, refl, sym, _∙_}
 use mathlib.Core.Logic.{_⊎_, ⊎-elim, _↔_}
 use mathlib.Core.Bool.{Bool, true, false, not, _&&_, _||_, true≢false}
 use lib.Dec.{ltb, eqb}
-use borrow.Author.Tests.{not-true, eqb-true, eq-eqb, ltb-true, lt-ltb}
+use borrow.Author.Tests.{not-true, eqb-true, eq-eqb, ltb-true, ltb-false, lt-ltb}
 
 -- a test, with what it came to
 pub data Seen (b : Bool) : Type 0 where
@@ -76,3 +76,11 @@ eqb-says x y = (eqb-true x y, eq-eqb x y)
 
 pub ltb-says : (x y : ℕ) → (ltb x y ≡ true) ↔ (x < y)
 ltb-says x y = (ltb-true x y, lt-ltb x y)
+
+-- two numbers, by the test that tells them apart
+pub lt-or-le : (x y : ℕ) → (x < y) ⊎ (y ≤ x)
+lt-or-le x y = go (seen (ltb x y))
+  where
+    go : Seen (ltb x y) → (x < y) ⊎ (y ≤ x)
+    go (yes! p) = _⊎_.inl (ltb-true x y p)
+    go (no! p) = _⊎_.inr (ltb-false x y p)

@@ -12,7 +12,7 @@ use lib.Dec.{ltb, eqb}
 use borrow.Author.Tests.{ltb-true, lt-ltb, le-ltb, eq-eqb, ne-eqb}
 use Rattle.model.specs.Sets.{bit, tab, memb, upto}
 use Rattle.model.specs.Results.{cell}
-use Rattle.model.proofs.Booleans.{bool-ext}
+use Rattle.model.proofs.Booleans.{bool-ext, both-yes, yes-right}
 
 pub length-tab : (n : ℕ) (S : ℕ → Bool) → length (tab n S) ≡ n
 unfolding tab
@@ -32,6 +32,23 @@ tab-of n S l e h =
 pub tab-cong : (n : ℕ) (S R : ℕ → Bool) → ((i : ℕ) → i < n → S i ≡ R i) → tab n S ≡ tab n R
 tab-cong n S R h = tab-of n R (tab n S) (length-tab n S) (λ i l. getD-tab n S i l ∙ ap bit (h i l))
 
+-- an empty set
+pub tab-none : (n : ℕ) (S : ℕ → Bool) → ((i : ℕ) → S i ≡ false) → replicate n 0 ≡ tab n S
+tab-none n S h = tab-of n S (replicate n 0) (length-replicate n 0) (λ i l. getD-replicate n i 0 0 l ∙ rw (h i))
+
+-- one byte is stored
+pub tab-set : (n : ℕ) (S R : ℕ → Bool) (i : ℕ) (b : Bool) → R i ≡ b → ((k : ℕ) → (k ≡ i → ⊥) → S k ≡ R k) → set (tab n S) i (bit b) ≡ tab n R
+tab-set n S R i b e h = tab-of n R (set (tab n S) i (bit b)) (length-set (tab n S) i (bit b) ∙ length-tab n S) (λ k l. at k l (native.Mathlib.Decide.ℕ-discrete k i))
+  where
+    at : (k : ℕ) → k < n → Dec (k ≡ i) → getD (set (tab n S) i (bit b)) k 0 ≡ bit (R k)
+    at k l (yes p) = rw (p, e) (getD-set-same (tab n S) i (bit b) 0 (omega (arith, length-tab n S)))
+    at k l (no p) = getD-set-other (tab n S) i k (bit b) 0 p ∙ getD-tab n S k l ∙ ap bit (h k p)
+
+-- a set of numbers below m
+pub tab-below : (n m : ℕ) (S : ℕ → Bool) → ((i : ℕ) → S i ≡ true → i < m) → tab n S ≡ tab n (upto m S)
+unfolding upto
+tab-below n m S h = tab-cong n S (λ i. ltb i m && S i) (λ i l. bool-ext (S i) (ltb i m && S i) (λ p. both-yes (lt-ltb i m (h i p)) p) (yes-right (ltb i m) (S i)))
+
 not-zero : (b : Bool) → not (eqb (bit b) 0) ≡ b
 not-zero true = refl
 not-zero false = refl
@@ -45,25 +62,17 @@ memb-tab n S i l = rw (getD-tab n S i l) (not-zero (S i))
 module _ (n : ℕ) (S : ℕ → Bool) where
   pub fill-start : replicate n 0 ≡ tab n (upto 0 S)
   unfolding upto
-  fill-start = tab-of n (λ k. ltb k 0 && S k) (replicate n 0) (length-replicate n 0)
-      (λ i l. getD-replicate n i 0 0 l ∙ rw (le-ltb i 0 (omega arith)))
+  fill-start = tab-none n (λ k. ltb k 0 && S k) (λ k. rw (le-ltb k 0 (omega arith)))
 
   same-or : (i k : ℕ) → (k ≡ i → ⊥) → ltb k i ≡ ltb k (i + 1)
   same-or i k ne = bool-ext (ltb k i) (ltb k (i + 1)) (λ p. lt-ltb k (i + 1) (let q : k < i = ltb-true k i p in omega arith))
       (λ p. lt-ltb k i (let q : k < i + 1 = ltb-true k (i + 1) p in omega arith))
 
   -- S i is b, and its byte is stored at i
-  pub fill-more : (i : ℕ) (b : Bool) → i < n → S i ≡ b → set (tab n (upto i S)) i (bit b) ≡ tab n (upto (i + 1) S)
+  pub fill-more : (i : ℕ) (b : Bool) → S i ≡ b → set (tab n (upto i S)) i (bit b) ≡ tab n (upto (i + 1) S)
   unfolding upto
-  fill-more i b l e = tab-of n (λ k. ltb k (i + 1) && S k) (set (tab n (λ k. ltb k i && S k)) i (bit b))
-      (length-set (tab n (λ k. ltb k i && S k)) i (bit b) ∙ length-tab n (λ k. ltb k i && S k)) at
-    where
-      at : (k : ℕ) → k < n → getD (set (tab n (λ k. ltb k i && S k)) i (bit b)) k 0 ≡ bit (ltb k (i + 1) && S k)
-      at k h = go (native.Mathlib.Decide.ℕ-discrete k i)
-        where
-          go : Dec (k ≡ i) → getD (set (tab n (λ k. ltb k i && S k)) i (bit b)) k 0 ≡ bit (ltb k (i + 1) && S k)
-          go (yes p) = rw (p, getD-set-same (tab n (λ k. ltb k i && S k)) i (bit b) 0 (rw (length-tab n (λ k. ltb k i && S k)) l), lt-ltb i (i + 1) (omega arith), e)
-          go (no p) = getD-set-other (tab n (λ k. ltb k i && S k)) i k (bit b) 0 p ∙ getD-tab n (λ k. ltb k i && S k) k h ∙ rw (same-or i k p)
+  fill-more i b e =
+      tab-set n (λ k. ltb k i && S k) (λ k. ltb k (i + 1) && S k) i b (rw (lt-ltb i (i + 1) (omega arith)) e) (λ k p. rw (same-or i k p))
 
   -- S i is false, and nothing is stored
   pub fill-skip : (i : ℕ) → S i ≡ false → tab n (upto i S) ≡ tab n (upto (i + 1) S)
@@ -82,8 +91,8 @@ module _ (n : ℕ) (S : ℕ → Bool) where
   fill-end = tab-cong n (λ k. ltb k n && S k) S (λ k l. rw (lt-ltb k n l))
 
 -- the same, for a list that is known to hold the part, and a value that is known to be the bit
-pub fill-store : (n : ℕ) (S : ℕ → Bool) (r : List ℕ) (i v : ℕ) → r ≡ tab n (upto i S) → v ≡ bit (S i) → i < n → set r i v ≡ tab n (upto (i + 1) S)
-fill-store n S r i v p q l = rw (p, q) (fill-more n S i (S i) l refl)
+pub fill-store : (n : ℕ) (S : ℕ → Bool) (r : List ℕ) (i v : ℕ) → r ≡ tab n (upto i S) → v ≡ bit (S i) → set r i v ≡ tab n (upto (i + 1) S)
+fill-store n S r i v p q = rw (p, q) (fill-more n S i (S i) refl)
 
 pub fill-none : (n : ℕ) (S : ℕ → Bool) (r : List ℕ) (i : ℕ) → r ≡ tab n (upto i S) → S i ≡ false → r ≡ tab n (upto (i + 1) S)
 fill-none n S r i p q = p ∙ fill-skip n S i q
@@ -95,15 +104,10 @@ pub fill-whole : (n : ℕ) (S : ℕ → Bool) (r : List ℕ) (i : ℕ) → r ≡
 fill-whole n S r i p l h = fill-done n S r i n p l h ∙ fill-end n S
 
 -- one store in an empty set
-pub one-of : (n x : ℕ) → x < n → set (replicate n 0) x 1 ≡ tab n (λ k. eqb k x)
-one-of n x l = tab-of n (λ k. eqb k x) (set (replicate n 0) x 1) (length-set (replicate n 0) x 1 ∙ length-replicate n 0) at
-  where
-    at : (k : ℕ) → k < n → getD (set (replicate n 0) x 1) k 0 ≡ bit (eqb k x)
-    at k h = go (native.Mathlib.Decide.ℕ-discrete k x)
-      where
-        go : Dec (k ≡ x) → getD (set (replicate n 0) x 1) k 0 ≡ bit (eqb k x)
-        go (yes p) = rw (eq-eqb k x p, p) (getD-set-same (replicate n 0) x 1 0 (rw (length-replicate {A = ℕ} n 0) l))
-        go (no p) = getD-set-other (replicate n 0) x k 1 0 p ∙ getD-replicate n k 0 0 h ∙ rw (ne-eqb k x p)
+pub one-of : (n x : ℕ) → set (replicate n 0) x 1 ≡ tab n (λ k. eqb k x)
+one-of n x =
+    ap (λ (l : List ℕ). set l x 1) (tab-none n (λ k. false) (λ k. refl))
+    ∙ tab-set n (λ k. false) (λ k. eqb k x) x true (eq-eqb x x refl) (λ k p. sym (ne-eqb k x p))
 
 pub memb-yes : (s : List ℕ) (x : ℕ) → (getD s x 0 ≡ 0 → ⊥) → memb s x ≡ true
 unfolding memb
@@ -130,12 +134,16 @@ tab-append a (suc n) S =
     ∙ append-assoc (tab a S) (tab n (λ k. S (a + k))) (bit (S (a + n)) ∷ [])
     ∙ ap (λ (l : List ℕ). tab a S ++ l) (sym (tab-snoc n (λ k. S (a + k)))))
 
--- a loop that writes numbers over the front of a list d; after i turns they are F i
+-- one number more over the front of a list d
+pub front-store : (P d l : List ℕ) (i v : ℕ) → l ≡ P ++ drop i d → length P ≡ i → i < length d → set l i v ≡ (P ++ (v ∷ [])) ++ drop (i + 1) d
+front-store P d l i v p size h =
+    rw (p, add-one i, drop-cons d i 0 h) (set-at P (getD d i 0) (drop (suc i) d) v i size ∙ sym (append-assoc P (v ∷ []) (drop (suc i) d)))
+
+-- a loop that writes numbers over the front; after i turns they are F i
 module _ (F : ℕ → List ℕ) (d l : List ℕ) (i : ℕ) (p : l ≡ F i ++ drop i d) where
   pub front-more : (v : ℕ) → F (suc i) ≡ F i ++ (v ∷ []) → length (F i) ≡ i → i < length d → set l i v ≡ F (i + 1) ++ drop (i + 1) d
   front-more v more size h =
-      rw (p, add-one i, drop-cons d i 0 h, more)
-      (set-at (F i) (getD d i 0) (drop (suc i) d) v i size ∙ sym (append-assoc (F i) (v ∷ []) (drop (suc i) d)))
+      front-store (F i) d l i v p size h ∙ ap (λ (P : List ℕ). P ++ drop (i + 1) d) (sym more ∙ ap F (sym (add-one i)))
 
   pub front-done : (n : ℕ) → i ≤ n → n ≤ i → l ≡ F n ++ drop n d
   front-done n a b = p ∙ ap (λ (k : ℕ). F k ++ drop k d) (let e : i ≡ n = omega arith in e)

@@ -12,20 +12,13 @@ use Rattle.model.specs.Sets.{any, turn}
 use Rattle.model.specs.Tree.{Tree}
 use Rattle.model.specs.Axes.{child, right, descendant, following, followingSibling, descendantOrSelf, axis}
 use Rattle.model.specs.Accepted.{Sound, Ordered}
-use Rattle.model.proofs.Booleans.{Seen, yes!, no!, seen, no-yes, bool-ext, both-yes, yes-left, yes-right, or-left, or-right, or-cases, not-yes}
+use Rattle.model.proofs.Booleans.{Seen, yes!, no!, seen, no-yes, bool-ext, both-yes, yes-left, yes-right, or-left, or-right, or-cases, not-yes, lt-or-le}
 use Rattle.model.proofs.Exists.{any-intro, any-elim}
 use Rattle.model.proofs.Axes.{sound-falling, descendant-step, descendant-zero, self-converse, axis-converse}
 use Rattle.tree.specs.Links.{links, PreviousSiblings}
 use Rattle.tree.proofs.Siblings.{sibling-of, sibling-is}
 use Rattle.steps.specs.Moves.{hop, plus, star, forward}
 use Rattle.steps.proofs.Closure.{hop-of, hop-falls, hop-is, plus-unique, plus-cases, plus-one, plus-more, plus-low, plus-star, plus-split, star-self, star-more, star-lower, star-strict}
-
-lt-or-le : (u v : ℕ) → (u < v) ⊎ (v ≤ u)
-lt-or-le u v = go (seen (ltb u v))
-  where
-    go : Seen (ltb u v) → (u < v) ⊎ (v ≤ u)
-    go (yes! p) = inl (ltb-true u v p)
-    go (no! p) = inr (ltb-false u v p)
 
 -- along parents
 

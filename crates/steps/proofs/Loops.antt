@@ -6,14 +6,13 @@ use mathlib.Core.Path.{_≡_, refl, sym, ap, _∙_}
 use mathlib.Core.Logic.{⊎-elim}
 use mathlib.Core.Bool.{Bool, true, false, not, _&&_, _||_, and-false, or-false}
 use mathlib.Core.List.{List}
-use lib.ListN.{getD, set, replicate, length-set}
-use lib.Seq.{getD-set-same, getD-set-other}
+use lib.ListN.{set, replicate}
 use lib.Dec.{ltb, eqb}
 use borrow.Author.Tests.{ltb-true, ltb-false, lt-ltb, le-ltb, eq-eqb, ne-eqb, not-true}
 use Rattle.model.specs.Sets.{any, bit, tab, memb, upto, turn, image}
 use Rattle.model.proofs.Booleans.{no-yes, bool-ext, both-yes, yes-left, yes-right, or-left, or-right, or-cases}
 use Rattle.model.proofs.Exists.{any-intro, any-elim}
-use Rattle.model.proofs.Bytes.{length-tab, getD-tab, tab-of, tab-cong, memb-tab, fill-start, fill-store, fill-none}
+use Rattle.model.proofs.Bytes.{tab-cong, memb-tab, fill-store, fill-none, tab-none, tab-set, tab-below}
 use Rattle.steps.specs.Moves.{hop, plus, along}
 use Rattle.steps.proofs.Closure.{hop-of, hop-falls, hop-is, plus-falls, plus-cases, plus-one, plus-more, along-one, along-more, along-split}
 
@@ -68,7 +67,7 @@ module _ (L : ℕ → ℕ) (n : ℕ) (S : ℕ → Bool) (closed : Bool) where
     -- the link's own byte is there already
     pub gather-store : (v : ℕ) → p < y → n ≤ 256 → v ≡ bit (S p || (closed && memb r p)) → set r y v ≡ tab 256 (upto (y + 1) gathered)
     unfolding upto
-    gather-store v m k g = fill-store 256 gathered r y v e (g ∙ ap (λ (b : Bool). bit (S p || (closed && b))) there ∙ rw (at-link y l, sym f, lt-ltb p y m)) (omega arith)
+    gather-store v m k g = fill-store 256 gathered r y v e (g ∙ ap (λ (b : Bool). bit (S p || (closed && b))) there ∙ rw (at-link y l, sym f, lt-ltb p y m))
       where
         there : memb r p ≡ gathered p
         there = rw e (memb-tab 256 (λ k. ltb k y && gathered k) p (omega arith) ∙ rw (lt-ltb p y m))
@@ -78,28 +77,14 @@ module _ (L : ℕ → ℕ) (n : ℕ) (S : ℕ → Bool) (closed : Bool) where
 
 -- scatter: each node's link is set from its byte
 
--- a set of lower numbers than n
-below : (n : ℕ) (F : ℕ → Bool) → ((x : ℕ) → F x ≡ true → x < n) → tab 256 F ≡ tab 256 (upto n F)
-unfolding upto
-below n F h = tab-cong 256 F (λ x. ltb x n && F x) (λ x l. bool-ext (F x) (ltb x n && F x) (λ p. both-yes (lt-ltb x n (h x p)) p) (λ p. yes-right (ltb x n) (F x) p))
-
--- an empty set
-nothing : (F : ℕ → Bool) → ((x : ℕ) → F x ≡ false) → replicate 256 0 ≡ tab 256 F
-unfolding upto
-nothing F h = fill-start 256 F ∙ tab-cong 256 (λ k. ltb k 0 && F k) F (λ k l. rw (h k) (and-false (ltb k 0)))
-
 -- G is F with the link p of y, if a holds
 module _ (L : ℕ → ℕ) (a : Bool) (y p : ℕ) (F G : ℕ → Bool) (more : (x : ℕ) → G x ≡ ((a && hop L x y) || F x)) (r : List ℕ) (e : r ≡ tab 256 F) (f : p ≡ L y) where
-  sent : (ltb p y && a) ≡ true → p < 256 → set r p 1 ≡ tab 256 G
+  sent : (ltb p y && a) ≡ true → set r p 1 ≡ tab 256 G
   unfolding hop
-  sent t l = rw e (tab-of 256 G (set (tab 256 F) p 1) (length-set (tab 256 F) p 1 ∙ length-tab 256 F) at)
-    where
-      at : (k : ℕ) → k < 256 → getD (set (tab 256 F) p 1) k 0 ≡ bit (G k)
-      at k h = go (native.Mathlib.Decide.ℕ-discrete k p)
-        where
-          go : Dec (k ≡ p) → getD (set (tab 256 F) p 1) k 0 ≡ bit (G k)
-          go (yes q) = rw (more k, sym f, yes-left (ltb p y) a t, yes-right (ltb p y) a t, eq-eqb p k (sym q), q) (getD-set-same (tab 256 F) p 1 0 (rw (length-tab 256 F) l))
-          go (no q) = getD-set-other (tab 256 F) p k 1 0 q ∙ getD-tab 256 F k h ∙ rw (more k, sym f, ne-eqb p k (λ z. q (sym z)), and-false (ltb p y), and-false a)
+  sent t =
+      rw e
+      (tab-set 256 F G p true (more p ∙ rw (sym f, yes-left (ltb p y) a t, yes-right (ltb p y) a t, eq-eqb p p refl))
+      (λ k q. sym (more k ∙ rw (sym f, ne-eqb p k (λ z. q (sym z)), and-false (ltb p y), and-false a))))
 
   kept : (ltb p y && a) ≡ false → r ≡ tab 256 G
   unfolding hop
@@ -173,7 +158,7 @@ module _ (L : ℕ → ℕ) (n : ℕ) (S : ℕ → Bool) (closed : Bool) where
       (or-cases (sending y && hop L x y) (part (suc y) x) p))
 
   pub part-start : replicate 256 0 ≡ tab 256 (part n)
-  part-start = nothing (part n) (λ x. bool-ext (part n x) false (λ p. let (z, l, b, s, h) = part-out n x p in absurd (omega arith)) (λ p. no-yes refl p))
+  part-start = tab-none 256 (part n) (λ x. bool-ext (part n x) false (λ p. let (z, l, b, s, h) = part-out n x p in absurd (omega arith)) (λ p. no-yes refl p))
 
   module _ (r : List ℕ) (i p : ℕ) (e : r ≡ tab 256 (part i)) (f : p ≡ L (i - 1)) (l : i ≤ n) (k : n ≤ 256) (o : 0 < i) where
     more : (x : ℕ) → part (i - 1) x ≡ ((sending (i - 1) && hop L x (i - 1)) || part i x)
@@ -183,8 +168,8 @@ module _ (L : ℕ → ℕ) (n : ℕ) (S : ℕ → Bool) (closed : Bool) where
     unfolding sending
     final = ap (λ (b : Bool). S (i - 1) || (closed && b)) (rw e (memb-tab 256 (part i) (i - 1) (omega arith) ∙ part-all i (i - 1) (omega arith)))
 
-    pub part-store : (ltb p (i - 1) && (S (i - 1) || (closed && memb r (i - 1)))) ≡ true → p < 256 → set r p 1 ≡ tab 256 (part (i - 1))
-    part-store t m = sent L (sending (i - 1)) (i - 1) p (part i) (part (i - 1)) more r e f (ap (λ (b : Bool). ltb p (i - 1) && b) (sym final) ∙ t) m
+    pub part-store : (ltb p (i - 1) && (S (i - 1) || (closed && memb r (i - 1)))) ≡ true → set r p 1 ≡ tab 256 (part (i - 1))
+    part-store t = sent L (sending (i - 1)) (i - 1) p (part i) (part (i - 1)) more r e f (ap (λ (b : Bool). ltb p (i - 1) && b) (sym final) ∙ t)
 
     pub part-skip : (ltb p (i - 1) && (S (i - 1) || (closed && memb r (i - 1)))) ≡ false → r ≡ tab 256 (part (i - 1))
     part-skip t = kept L (sending (i - 1)) (i - 1) p (part i) (part (i - 1)) more r e f (ap (λ (b : Bool). ltb p (i - 1) && b) (sym final) ∙ t)
@@ -193,7 +178,7 @@ module _ (L : ℕ → ℕ) (n : ℕ) (S : ℕ → Bool) (closed : Bool) where
   unfolding image reach
   part-done r i e a =
       e ∙ tab-cong 256 (part i) U (λ x l. part-all i x (omega arith))
-      ∙ below n U (λ x p. let (z, l, s, h) = sent-by x p in let f : L z < z = hop-falls L x z h in let g : L z ≡ x = hop-is L x z h in omega arith)
+      ∙ tab-below 256 n U (λ x p. let (z, l, s, h) = sent-by x p in let f : L z < z = hop-falls L x z h in let g : L z ≡ x = hop-is L x z h in omega arith)
 
 -- a link that a byte is sent to is lower than its node
 pub sends-below : (p y k : ℕ) (a : Bool) → (ltb p y && a) ≡ true → y ≤ k → p < k

@@ -40,7 +40,7 @@ loop-less c = omega arith
 
 loop-again : tie.Need-loop-again Inv-loop μ-loop
 unfolding memb combination
-loop-again c = (omega arith, fill-store 256 _ _ _ _ (c .before .before .before .loop .inv .1) (c .byte .ensures ∙ ap bit (c .before .merge .ensures)) (omega arith))
+loop-again c = (omega arith, fill-store 256 _ _ _ _ (c .before .before .before .loop .inv .1) (c .byte .ensures ∙ ap bit (c .before .merge .ensures)))
 
 returns : tie.Need-returns Inv-loop μ-loop
 returns c = search (fill-whole, needs)

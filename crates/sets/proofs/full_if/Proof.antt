@@ -30,7 +30,7 @@ loop-less : tie.Need-loop-less Inv-loop μ-loop
 loop-less c = omega arith
 
 loop-again : tie.Need-loop-again Inv-loop μ-loop
-loop-again c = (omega arith, (c .before .loop .inv .1 .0, fill-store 256 _ _ _ _ (c .before .loop .inv .1 .1) (c .before .loop .inv .1 .0) (omega arith)))
+loop-again c = (omega arith, (c .before .loop .inv .1 .0, fill-store 256 _ _ _ _ (c .before .loop .inv .1 .1) (c .before .loop .inv .1 .0)))
 
 returns : tie.Need-returns Inv-loop μ-loop
 returns c = search (fill-done, needs)

@@ -34,7 +34,7 @@ loop-less c = omega arith
 
 loop-again : tie.Need-loop-again Inv-loop μ-loop
 unfolding memb
-loop-again c = (omega arith, fill-store 256 _ _ _ _ (c .before .before .before .loop .inv .1) (c .byte .ensures) (omega arith))
+loop-again c = (omega arith, fill-store 256 _ _ _ _ (c .before .before .before .loop .inv .1) (c .byte .ensures))
 
 returns : tie.Need-returns Inv-loop μ-loop
 returns c = search (fill-done, needs)

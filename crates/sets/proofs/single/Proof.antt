@@ -7,7 +7,7 @@ array-write-r : tie.Need-array-write-r
 array-write-r c = search needs
 
 returns : tie.Need-returns
-returns c = one-of 256 _ (c .pre)
+returns c = one-of 256 _
 
 pub single-spec : {M : Type 1} → statement M
 single-spec = tie.close (tie.spec array-write-r returns)

@@ -34,7 +34,7 @@ loop-less : tie.Need-loop-less Inv-loop μ-loop
 loop-less c = omega arith
 
 loop-again : tie.Need-loop-again Inv-loop μ-loop
-loop-again c = (omega arith, (c .before .before .before .loop .inv .1 .0, fill-store 256 _ _ _ _ (c .before .before .before .loop .inv .1 .1) (c .byte .ensures ∙ ap bit (c .before .passes-name .ensures)) (omega arith)))
+loop-again c = (omega arith, (c .before .before .before .loop .inv .1 .0, fill-store 256 _ _ _ _ (c .before .before .before .loop .inv .1 .1) (c .byte .ensures ∙ ap bit (c .before .passes-name .ensures))))
 
 returns : tie.Need-returns Inv-loop μ-loop
 returns c = fill-done 256 _ _ _ _ (c .before .loop .inv .1 .1) (omega arith) (omega arith)

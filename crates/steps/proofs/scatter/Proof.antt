@@ -46,7 +46,7 @@ loop-less c = omega arith
 
 loop-again : tie.Need-loop-again Inv-loop μ-loop
 unfolding memb
-loop-again c = (omega arith, part-store _ _ _ _ _ _ _ (c .before .before .before .before .loop .inv .1) (c .before .wide .ensures .0) (omega arith) (omega arith) (omega arith) (c .if1 .taken) (sends-below _ _ _ _ (c .if1 .taken) (omega arith)))
+loop-again c = (omega arith, part-store _ _ _ _ _ _ _ (c .before .before .before .before .loop .inv .1) (c .before .wide .ensures .0) (omega arith) (omega arith) (omega arith) (c .if1 .taken))
 
 loop-less-2 : tie.Need-loop-less-2 Inv-loop μ-loop
 loop-less-2 c = omega arith
