@@ -45,7 +45,8 @@
  *
  * Two numbers a node: its parent, its tag. Node k has the numbers at 2 k and 2 k + 1; the tree has n nodes, 1 to 256, so that
  * tree_len is 2 n. Nodes are numbered in document order: node 0 is the root, with parent 65535, and the parent of each later
- * node k is node k - 1 or an ancestor of node k - 1. Siblings stand in number order. Tags are 0 to 65533.
+ * node k is node k - 1 or an ancestor of node k - 1. Siblings stand in number order. Tags are 0 to 65533; node 0 may have the tag
+ * 65534, which makes it a document node, the node above the top element that desktop tools expect.
  *
  * The tree of all examples here, a hall (tag 1) with two bays (tag 2) that hold pallets (tag 3):
  *
@@ -85,7 +86,8 @@
  *     11  or              expr       expr    -       left or right holds at x
  *     12  is              variable   -       -       x is the variable's node
  *
- * A step's test is a tag, 0 to 65533, which passes the nodes with that tag, or 65535, the star, which passes every node.
+ * A step's test is a tag, 0 to 65533, which passes the nodes with that tag; or 65534, node(), which passes every node; or 65535,
+ * the star, which passes every node but a document node.
  *
  *     axis                     y is on it from x if
  *      0  self                 y is x
@@ -161,7 +163,7 @@
  *     Intersection = Run { ( " intersect " | " except " ) Run }
  *     Run          = [ "/" | "//" ] Step { ( "/" | "//" ) Step }
  *     Step         = Primary { "[" Test "]" }
- *     Primary      = axis "::" ( "*" | name ) | "." | ".." | "$0" | "$1" | "$2" | "(" Path ")"
+ *     Primary      = axis "::" ( "*" | "node()" | name ) | "." | ".." | "$0" | "$1" | "$2" | "(" Path ")"
  *     Test         = Conjunction { " or " Conjunction }
  *     Conjunction  = Unit { " and " Unit }
  *     Unit         = Path | "not(" Test ")" | ". is $0" | ". is $1" | ". is $2" | "(" Test ")"
@@ -174,14 +176,15 @@
  *     typed           stands for                                                       kind
  *     axis::name      a step, with the lowest tag that has the name                     0
  *     axis::*         a step with the star                                              0
- *     .   ..          self::* and parent::*                                             0
+ *     axis::node()    a step with node(); without the brackets node is a name           0
+ *     .   ..          self::node() and parent::node()                                   0
  *     a/b             a composed with b                                                 1
- *     a//b            a, descendant-or-self::* and b, composed leftwards                1
+ *     a//b            a, descendant-or-self::node() and b, composed leftwards           1
  *     union, intersect, except                                                          2, 3, 4
  *     a[t]            a filtered by t                                                   5
  *     $0              variable 0                                                        6
  *     /a   //a        from the root: the whole run behind it, and the run that has      7
- *                     descendant-or-self::* before its first step
+ *                     descendant-or-self::node() before its first step
  *     a as a Unit     some                                                              8
  *     not(t), and, or, . is $0                                                          9, 10, 11, 12
  *     (a)   (t)       what it holds: a bracket makes no entry
@@ -213,7 +216,8 @@
  * gz_descendants finds the descendants of a node, `start`, that have a tag, by a chain of nodes. The chain begins at the tree's
  * first node after start that has the tag, and goes on from each node to the one that the index has for it. It stops at 65535, or
  * at the first node that is no descendant of start; the nodes before that are the answer. With the tree's own index they are all
- * descendants of start that have the tag. 65535 is no star here: no node has it as its tag, so that nothing is found.
+ * descendants of start that have the tag. 65535 is no star here: no node has it as its tag, so that nothing is found. Nor is 65534
+ * node() here: it is the tag of a document node, which stands in the list of the tags like others and is no descendant.
  *
  * Any index may be lent. A number of it is looked at where the chain reads it, at each node of the answer and nowhere else, and
  * is refused if it is neither 65535 nor a later node with the tag. An index that is wrong where the chain does not read it is
@@ -238,13 +242,13 @@
  *       5       the tree table is empty, of odd length, or longer than 512 numbers          0
  *       6       node 0's parent is not 65535, or a later node's is neither the node         the node
  *               before it nor an ancestor of that node
- *       7       a node's tag is 65534 or 65535                                              the node
+ *       7       a node's tag is 65535, or it is 65534 and the node is not node 0            the node
  *       8       the query table is empty, its length no multiple of four, or longer         0
  *               than 256 numbers
  *       9       columns is above 3, or is 0 for gz_page                                     0
  *      10       an entry's kind is above 12                                                 the entry
- *      11       a step's axis is above 12 or its test 65534, a variable is not below        the entry
- *               columns, or a field that must be 0 is not
+ *      11       a step's axis is above 12, a variable is not below columns, or a field      the entry
+ *               that must be 0 is not
  *      12       an operand is not below its own entry's number                              the entry that has it
  *      13       an operand is a path where a node expression is due, or the reverse         the entry that has it
  *      14       an entry before the last is an operand never, or more than once             that operand entry
@@ -283,8 +287,8 @@
 /* The version of this header and of the archive that it describes. GZ_VERSION_MAJOR is counted up, and MINOR set to 0, where a
    program that was written to the header before may break: another reply to the same call, a refusal of what was accepted or the
    reverse, another type, size or name. GZ_VERSION_MINOR is counted up where something is added and all else is as it was. */
-#define GZ_VERSION_MAJOR 2
-#define GZ_VERSION_MINOR 1
+#define GZ_VERSION_MAJOR 3
+#define GZ_VERSION_MINOR 0
 
 #ifdef __cplusplus
 extern "C" {

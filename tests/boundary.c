@@ -41,6 +41,8 @@ static void expect(bool ok, const char *function, const char *what, const char *
 }
 
 static const uint16_t warehouse[] = {65535, 1, 0, 2, 1, 3, 1, 3, 0, 2, 4, 3};
+/* the same below a document node, so that each node's number is one higher */
+static const uint16_t document[] = {65535, 65534, 0, 1, 1, 2, 2, 3, 2, 3, 1, 2, 5, 3};
 
 /* descendant::2[. is $0]/child::3[. is $1], the bays with their pallets */
 static const uint16_t pallets[] = {0, 5, 0, 2, 12, 0, 0, 0, 5, 0, 1, 0, 0, 1, 0, 3, 12, 1, 0, 0, 5, 3, 4, 0, 1, 2, 5, 0};
@@ -71,6 +73,11 @@ static void trees(void)
     tree("node 1 its own parent", NUMBERS(65535, 1, 1, 2), 6, 1);
     tree("a parent of another branch", NUMBERS(65535, 1, 0, 2, 1, 3, 1, 3, 0, 2, 2, 3), 6, 5);
     tree("tag 65534", NUMBERS(65535, 1, 0, 65534, 1, 65535), 7, 1);
+    tree("a document node", SLICE(document), 0, 0);
+    tree("a document node alone", NUMBERS(65535, 65534), 0, 0);
+    tree("two document nodes", NUMBERS(65535, 65534, 0, 65534), 7, 1);
+    tree("a document node and tag 65535", NUMBERS(65535, 65534, 0, 1, 0, 65535), 7, 2);
+    tree("tag 65535 at node 0", NUMBERS(65535, 65535, 0, 65534), 7, 0);
     tree("parents before tags", NUMBERS(65535, 65535, 0, 2, 2, 3), 6, 2);
 }
 
@@ -98,7 +105,10 @@ static void queries(void)
     query("4 variables", SLICE(pallets), 4, 9, 0);
     query("kind 13", NUMBERS(0, 1, 0, 2, 13, 0, 0, 0), 0, 10, 1);
     query("axis 13", NUMBERS(0, 13, 0, 2), 0, 11, 0);
-    query("test 65534", NUMBERS(0, 1, 0, 65534), 0, 11, 0);
+    query("test 65534", NUMBERS(0, 1, 0, 65534), 0, 0, 0);
+    query("axis 13 and test 65534", NUMBERS(0, 13, 0, 65534), 0, 11, 0);
+    query("test 65534 and a right field", NUMBERS(0, 1, 1, 65534), 0, 11, 0);
+    query("65534 where 0 is due", NUMBERS(0, 1, 0, 65534, 7, 0, 0, 65534), 0, 11, 1);
     query("variable 1 of one", SLICE(pallets), 1, 11, 4);
     query("a tag where 0 is due", NUMBERS(0, 1, 0, 2, 7, 0, 0, 1), 0, 11, 1);
     query("an operand that is its own entry", NUMBERS(0, 1, 0, 2, 7, 1, 0, 0), 0, 12, 1);
@@ -256,6 +266,10 @@ static void relations(void)
     relation("following::*", LENT(SLICE(following), 0, NOTHING), 50, 0, 0, "000000" "000011" "000111" "000011" "000000" "000000");
     relation("bay 4, pallet 5", LENT(SLICE(pallets), 2, NUMBERS(4, 5)), 36, 0, 0, "000001" "000000" "000000" "000000" "000000" "000000");
     relation("self::* in one node", ON(NUMBERS(65535, 1), NUMBERS(0, 0, 0, 65535), 0, NOTHING), 1, 0, 0, "1");
+    relation("parent::*", ON(SLICE(document), NUMBERS(0, 2, 0, 65535), 0, NOTHING), 49, 0, 0,
+             "0000000" "0000000" "0100000" "0010000" "0010000" "0100000" "0000010");
+    relation("parent::node()", ON(SLICE(document), NUMBERS(0, 2, 0, 65534), 0, NOTHING), 49, 0, 0,
+             "0000000" "1000000" "0100000" "0010000" "0010000" "0100000" "0000010");
     relation("half a node", ON(warehouse, 11, SLICE(child), 0, NOTHING), 36, 5, 0, "");
     relation("a bad query", LENT(NUMBERS(0, 1, 1, 2), 0, NOTHING), 36, 11, 0, "");
     relation("a node for no variable", LENT(SLICE(child), 0, NUMBERS(1)), 36, 16, 0, "");
@@ -298,7 +312,7 @@ static void pages(void)
     page("rows 1 and 2", bays, &cursor, 5, ACCEPTED(2, true), NUMBERS(1, 2, 1, 3), AT(1, 3, 900));
     page("no variables", LENT(SLICE(pallets), 0, NOTHING), &cursor, 5, REFUSED(9, 0), NOTHING, AT(1, 3, 900));
     page("room for no row", bays, &cursor, 1, REFUSED(20, 0), NOTHING, AT(1, 3, 900));
-    page("another tree, refused", ON(NUMBERS(65535, 65534), SLICE(pallets), 2, NOTHING), &cursor, 5, REFUSED(7, 0), NOTHING, AT(1, 3, 900));
+    page("another tree, refused", ON(NUMBERS(65535, 65535), SLICE(pallets), 2, NOTHING), &cursor, 5, REFUSED(7, 0), NOTHING, AT(1, 3, 900));
     page("row 3", bays, &cursor, 5, ACCEPTED(1, false), NUMBERS(4, 5), AT(4, 5, 900));
     page("no more rows", bays, &cursor, 4, ACCEPTED(0, false), NOTHING, AT(4, 5, 900));
     cursor = AT(1, 4, 900);
@@ -337,6 +351,15 @@ static void pages(void)
     page("the first bay", one_branch, &cursor, 1, ACCEPTED(1, true), NUMBERS(1), AT(1, 0, 0));
     page("the second bay", one_branch, &cursor, 1, ACCEPTED(1, false), NUMBERS(4), AT(4, 0, 0));
 
+    /* self::*[. is $0] and self::node()[. is $0] below a document node */
+    cursor = (gz_cursor){0};
+    struct lent starred = ON(SLICE(document), NUMBERS(0, 0, 0, 65535, 12, 0, 0, 0, 5, 0, 1, 0), 1, NOTHING);
+    page("all but the document node", starred, &cursor, 8, ACCEPTED(6, false), NUMBERS(1, 2, 3, 4, 5, 6), AT(6, 0, 0));
+    cursor = (gz_cursor){0};
+    struct lent unstarred = ON(SLICE(document), NUMBERS(0, 0, 0, 65534, 12, 0, 0, 0, 5, 0, 1, 0), 1, NOTHING);
+    page("the document node too", unstarred, &cursor, 3, ACCEPTED(3, true), NUMBERS(0, 1, 2), AT(2, 0, 0));
+    page("and the others", unstarred, &cursor, 8, ACCEPTED(4, false), NUMBERS(3, 4, 5, 6), AT(6, 0, 0));
+
     /* a third variable, which plays no part */
     cursor = AT(1, 2, 4);
     struct lent three = LENT(SLICE(pallets), 3, NOTHING);
@@ -372,6 +395,7 @@ static void names(void)
     name("no house", NOTHING, TABLE(site), 0, 0, 0, site + 1, 6);
     name("no such name", TABLE(house), TABLE(site), 4, 22, 0, house, 0);
     name("tag 65534", TABLE(house), TABLE(site), 65534, 22, 0, house, 0);
+    name("tag 65535", TABLE(house), TABLE(site), 65535, 22, 0, house, 0);
     name("no names", NOTHING, NOTHING, 0, 22, 0, NULL, 0);
     name("a length of 0", TABLE(zero), TABLE(site), 0, 21, 0, zero, 0);
     name("a length of 33", TABLE(long_name), TABLE(site), 0, 21, 0, long_name, 0);
@@ -446,9 +470,10 @@ static void refuses(const char *text, struct vocabulary v, size_t room, uint16_t
 /* Entries of no, one and two operands. */
 #define STEP(axis, tag) 0, axis, 0, tag
 #define STAR 65535
-#define SELF STEP(0, STAR)
-#define PARENT STEP(2, STAR)
-#define BELOW STEP(11, STAR)
+#define ANY_NODE 65534
+#define SELF STEP(0, ANY_NODE)
+#define PARENT STEP(2, ANY_NODE)
+#define BELOW STEP(11, ANY_NODE)
 #define ONE(kind, left) kind, left, 0, 0
 #define TWO(kind, left, right) kind, left, right, 0
 
@@ -456,20 +481,23 @@ static void refuses(const char *text, struct vocabulary v, size_t room, uint16_t
 static void worked(void)
 {
     reads("child::pallet", TEACHING, 0, NUMBERS(0, 1, 0, 3));
-    reads(".", TEACHING, 0, NUMBERS(0, 0, 0, 65535));
+    reads("child::*", TEACHING, 0, NUMBERS(0, 1, 0, 65535));
+    reads("child::node()", TEACHING, 0, NUMBERS(0, 1, 0, 65534));
+    reads(".", TEACHING, 0, NUMBERS(0, 0, 0, 65534));
     reads("$1", TEACHING, 2, NUMBERS(6, 1, 0, 0));
-    reads("((..))", TEACHING, 0, NUMBERS(0, 2, 0, 65535));
+    reads("((..))", TEACHING, 0, NUMBERS(0, 2, 0, 65534));
     reads("/child::bay", TEACHING, 0, NUMBERS(0, 1, 0, 2, 7, 0, 0, 0));
-    reads("//child::pallet", TEACHING, 0, NUMBERS(0, 11, 0, 65535, 0, 1, 0, 3, 1, 0, 1, 0, 7, 2, 0, 0));
-    reads("child::bay//..", TEACHING, 0, NUMBERS(0, 1, 0, 2, 0, 11, 0, 65535, 1, 0, 1, 0, 0, 2, 0, 65535, 1, 2, 3, 0));
+    reads("//child::pallet", TEACHING, 0, NUMBERS(0, 11, 0, 65534, 0, 1, 0, 3, 1, 0, 1, 0, 7, 2, 0, 0));
+    reads("//child::*", TEACHING, 0, NUMBERS(0, 11, 0, 65534, 0, 1, 0, 65535, 1, 0, 1, 0, 7, 2, 0, 0));
+    reads("child::bay//..", TEACHING, 0, NUMBERS(0, 1, 0, 2, 0, 11, 0, 65534, 1, 0, 1, 0, 0, 2, 0, 65534, 1, 2, 3, 0));
     reads("//child::bay/..", TEACHING, 0,
-          NUMBERS(0, 11, 0, 65535, 0, 1, 0, 2, 1, 0, 1, 0, 0, 2, 0, 65535, 1, 2, 3, 0, 7, 4, 0, 0));
-    reads(". except .. intersect $0", TEACHING, 1, NUMBERS(0, 0, 0, 65535, 0, 2, 0, 65535, 4, 0, 1, 0, 6, 0, 0, 0, 3, 2, 3, 0));
-    reads(". union .. except $0", TEACHING, 1, NUMBERS(0, 0, 0, 65535, 0, 2, 0, 65535, 6, 0, 0, 0, 4, 1, 2, 0, 2, 0, 3, 0));
-    reads(".[. is $2]", TEACHING, 3, NUMBERS(0, 0, 0, 65535, 12, 2, 0, 0, 5, 0, 1, 0));
-    reads(".[(..)/$0]", TEACHING, 1, NUMBERS(0, 0, 0, 65535, 0, 2, 0, 65535, 6, 0, 0, 0, 1, 1, 2, 0, 8, 3, 0, 0, 5, 0, 4, 0));
+          NUMBERS(0, 11, 0, 65534, 0, 1, 0, 2, 1, 0, 1, 0, 0, 2, 0, 65534, 1, 2, 3, 0, 7, 4, 0, 0));
+    reads(". except .. intersect $0", TEACHING, 1, NUMBERS(0, 0, 0, 65534, 0, 2, 0, 65534, 4, 0, 1, 0, 6, 0, 0, 0, 3, 2, 3, 0));
+    reads(". union .. except $0", TEACHING, 1, NUMBERS(0, 0, 0, 65534, 0, 2, 0, 65534, 6, 0, 0, 0, 4, 1, 2, 0, 2, 0, 3, 0));
+    reads(".[. is $2]", TEACHING, 3, NUMBERS(0, 0, 0, 65534, 12, 2, 0, 0, 5, 0, 1, 0));
+    reads(".[(..)/$0]", TEACHING, 1, NUMBERS(0, 0, 0, 65534, 0, 2, 0, 65534, 6, 0, 0, 0, 1, 1, 2, 0, 8, 3, 0, 0, 5, 0, 4, 0));
     reads(".[.. or $0 and .]", TEACHING, 1,
-          NUMBERS(0, 0, 0, 65535, 0, 2, 0, 65535, 8, 1, 0, 0, 6, 0, 0, 0, 8, 3, 0, 0, 0, 0, 0, 65535, 8, 5, 0, 0, 10, 4,
+          NUMBERS(0, 0, 0, 65534, 0, 2, 0, 65534, 8, 1, 0, 0, 6, 0, 0, 0, 8, 3, 0, 0, 0, 0, 0, 65534, 8, 5, 0, 0, 10, 4,
                   6, 0, 11, 2, 7, 0, 5, 0, 8, 0));
     reads("child::bay[child::pallet and not(right::*)]", TEACHING, 0,
           NUMBERS(0, 1, 0, 2, 0, 1, 0, 3, 8, 1, 0, 0, 0, 3, 0, 65535, 8, 3, 0, 0, 9, 4, 0, 0, 10, 2, 5, 0, 5, 0, 6, 0));
@@ -488,6 +516,15 @@ static void worked(void)
     refuses(".[(.. or $0)/.]", TEACHING, 256, 24, 12);
     refuses(".[(..) is $0]", TEACHING, 256, 24, 8);
     refuses("$3", TEACHING, 256, 24, 1);
+    refuses("child::node(", TEACHING, 256, 24, 12);
+    refuses("child::node(x", TEACHING, 256, 24, 12);
+    refuses("child::node())", TEACHING, 256, 24, 13);
+    refuses("child::nodes()", TEACHING, 256, 24, 12);
+    refuses("child::node ()", TEACHING, 256, 24, 12);
+    refuses("child::node( )", TEACHING, 256, 24, 12);
+    refuses("node()", TEACHING, 256, 24, 0);
+    refuses("child::node", TEACHING, 256, 25, 7);
+    refuses("child::nodes", TEACHING, 256, 25, 7);
     refuses("child::shelf", TEACHING, 256, 25, 7);
     refuses("child::shelf[..]/child::", TEACHING, 256, 24, 24);
     refuses("child::bay[child::none or child::shelf]", TEACHING, 256, 25, 18);
@@ -501,10 +538,15 @@ static void paths(void)
         char text[32];
         snprintf(text, sizeof text, "%s::*", axes[axis]);
         reads(text, TEACHING, 0, NUMBERS(STEP(axis, STAR)));
+        snprintf(text, sizeof text, "%s::node()", axes[axis]);
+        reads(text, TEACHING, 0, NUMBERS(STEP(axis, ANY_NODE)));
         snprintf(text, sizeof text, "%s::pallet", axes[axis]);
         reads(text, TEACHING, 0, NUMBERS(STEP(axis, 3)));
     }
     reads("..", TEACHING, 0, NUMBERS(PARENT));
+    reads(". union self::node() union self::*", TEACHING, 0, NUMBERS(SELF, SELF, TWO(2, 0, 1), STEP(0, STAR), TWO(2, 2, 3)));
+    reads("/descendant-or-self::node()/child::bay", TEACHING, 0, NUMBERS(BELOW, STEP(1, 2), TWO(1, 0, 1), ONE(7, 2)));
+    reads("/descendant-or-self::*/child::bay", TEACHING, 0, NUMBERS(STEP(11, STAR), STEP(1, 2), TWO(1, 0, 1), ONE(7, 2)));
     reads("$0", TEACHING, 1, NUMBERS(ONE(6, 0)));
     reads("($1)", TEACHING, 2, NUMBERS(ONE(6, 1)));
     reads("$2", TEACHING, 3, NUMBERS(ONE(6, 2)));
@@ -560,6 +602,8 @@ static void typed_names(void)
     reads("child::or[child::and and child::not]", NAMES("\2or\3and", "\3not\4self"), 0,
           NUMBERS(STEP(1, 0), STEP(1, 1), ONE(8, 1), STEP(1, 2), ONE(8, 3), TWO(10, 2, 4), TWO(5, 0, 5)));
     reads("self::self union self::self", NAMES("", "\4self"), 0, NUMBERS(STEP(0, 0), STEP(0, 0), TWO(2, 0, 1)));
+    reads("child::node[child::node() and child::nodes]", NAMES("\3nod\4node", "\4node\5nodes"), 0,
+          NUMBERS(STEP(1, 1), STEP(1, ANY_NODE), ONE(8, 1), STEP(1, 3), ONE(8, 3), TWO(10, 2, 4), TWO(5, 0, 5)));
     reads("child::-_0-9", NAMES("\5-_0-8", "\5-_0-9"), 0, NUMBERS(STEP(1, 1)));
 
     /* of equal names the lowest tag counts; names that only begin alike, or are other letters, are other names */
@@ -616,7 +660,10 @@ static const struct {
     {". intersection .", 11}, {". unions .", 7}, {"attribute::*", 1}, {"following-siblings::*", 17},
     {"descendant-or-self:*", 19}, {"child::a.b", 8}, {"child::\303\251", 7}, {"child::*[position()=1]", 10},
     {"@a", 0}, {"a", 1}, {"*", 0}, {"child::bay|child::pallet", 10}, {"child::bay,child::pallet", 10},
-    {"child::bay\n", 10}, {".[.. or", 7}, {".[..]or .", 5},
+    {"child::bay\n", 10}, {".[.. or", 7}, {".[..]or .", 5}, {"child::nod()", 10}, {"child::Node()", 11}, {"child::-node()", 12},
+    {"child::node-()", 12}, {"child::nodenode()", 15}, {"child::node()()", 13}, {"child::node()s", 13}, {"child::node()::*", 13},
+    {"child::node()*", 13}, {"child::*()", 8}, {"child::()", 7}, {"child::(node())", 7}, {"child::text()", 11}, {"./node()", 2},
+    {".[node()]", 4}, {".[child::node(]", 14}, {"(child::node()", 14}, {"child::node() or .", 14}, {"child::node\n()", 11},
 };
 
 static void refused_texts(void)
@@ -651,6 +698,17 @@ static void refused_texts(void)
         gz_read_reply r = gz_read((const uint8_t *)whole, length, TABLE(house), TABLE(site), table, 256);
         bool read = length == 9 || length == 86 || length == 101;
         expect(read ? r.number == 0 : r.number == 24 && r.place == length, "gz_read", "a text that is cut", "reply");
+    }
+}
+
+/* Every front of child::node(): behind the colons it ends in a name, which no tag has here, until the bracket opens. */
+static void cut_before_node(void)
+{
+    for (uint16_t length = 1; length <= 13; length++) {
+        bool named = 8 <= length && length <= 11;
+        gz_read_reply reply = length == 13 ? READ(4, 0) : named ? UNREAD(25, 7) : UNREAD(24, length);
+        reading("child::node() that is cut", (const uint8_t *)"child::node()", length, TEACHING, 4, reply,
+                (const uint16_t[]){STEP(1, ANY_NODE)}, reply.count);
     }
 }
 
@@ -697,13 +755,51 @@ static void limits(void)
 }
 
 /* What is read is evaluated. */
-static void typed_image(const struct direction *d, const char *text, const char *from, const char *result)
+static void typed_image_on(const uint16_t *tree, size_t tree_len, const struct direction *d, const char *text, const char *from,
+                           const char *result)
 {
     uint16_t table[256];
     gz_read_reply r = gz_read((const uint8_t *)text, strlen(text), TABLE(house), TABLE(site), table, 256);
     expect(r.number == 0, "gz_read", text, "reply");
     query(text, table, r.count, r.columns, 0, 0);
-    image(d, text, LENT(table, r.count, r.columns, NOTHING), from, 6, 0, 0, result);
+    image(d, text, ON(tree, tree_len, table, r.count, r.columns, NOTHING), from, tree_len / 2, 0, 0, result);
+}
+
+static void typed_image(const struct direction *d, const char *text, const char *from, const char *result)
+{
+    typed_image_on(SLICE(warehouse), d, text, from, result);
+}
+
+/* A document node: what the star leaves out, and `node()` and what is short for it does not. */
+static void typed_on_document(void)
+{
+    const struct direction *f = &forwards, *b = &backwards;
+    typed_image_on(SLICE(document), f, "self::*", "1100000", "0100000");
+    typed_image_on(SLICE(document), f, ".", "1100000", "1100000");
+    typed_image_on(SLICE(document), f, "child::*", "1000000", "0100000");
+    typed_image_on(SLICE(document), f, "parent::*", "0110000", "0100000");
+    typed_image_on(SLICE(document), f, "..", "0110000", "1100000");
+    typed_image_on(SLICE(document), b, "parent::*", "1100000", "0010010");
+    typed_image_on(SLICE(document), b, "..", "1100000", "0110010");
+    typed_image_on(SLICE(document), f, "ancestor::*", "0001000", "0110000");
+    typed_image_on(SLICE(document), f, "ancestor::node()", "0001000", "1110000");
+    typed_image_on(SLICE(document), f, "descendant-or-self::*", "1000000", "0111111");
+    typed_image_on(SLICE(document), f, "descendant-or-self::node()", "1000000", "1111111");
+    typed_image_on(SLICE(document), b, "descendant-or-self::*", "1000000", "0000000");
+    typed_image_on(SLICE(document), b, "descendant-or-self::node()", "1000000", "1000000");
+    typed_image_on(SLICE(document), f, "//child::*", "0000001", "0111111");
+    typed_image_on(SLICE(document), b, "//child::*", "0100000", "1111111");
+    typed_image_on(SLICE(document), f, "/descendant-or-self::*/child::*", "0000001", "0011111");
+    typed_image_on(SLICE(document), b, "/descendant-or-self::*/child::*", "0100000", "0000000");
+    typed_image_on(SLICE(document), f, "/.", "0000001", "1000000");
+    typed_image_on(SLICE(document), f, "/self::*", "0000001", "0000000");
+    typed_image_on(SLICE(document), f, ".[not(parent::*)]", "1111111", "1100000");
+    typed_image_on(SLICE(document), f, ".[not(..)]", "1111111", "1000000");
+    typed_image_on(SLICE(document), f, "/child::hall/child::bay", "1000000", "0010010");
+    typed_image_on(NUMBERS(65535, 65534), f, "self::*", "1", "0");
+    typed_image_on(NUMBERS(65535, 65534), f, ".", "1", "1");
+    typed_image_on(SLICE(warehouse), f, "ancestor-or-self::node()", "000001", "100011");
+    typed_image_on(SLICE(warehouse), f, "ancestor-or-self::*", "000001", "100011");
 }
 
 static void typed(void)
@@ -714,7 +810,9 @@ static void typed(void)
     filters();
     typed_names();
     refused_texts();
+    cut_before_node();
     limits();
+    typed_on_document();
     typed_image(f, "child::bay[child::pallet and not(right::*)]", "100000", "000010");
     typed_image(f, "following::*", "001000", "000111");
     typed_image(b, "child::pallet", "001001", "010010");
@@ -783,6 +881,7 @@ static void unmakes(const char *what, const uint16_t *table, size_t length, uint
 }
 
 static const uint16_t warehouse_next[] = {65535, 4, 3, 5, 65535, 65535};
+static const uint16_t document_next[] = {65535, 65535, 5, 4, 6, 65535, 65535};
 
 static void indexes(void)
 {
@@ -792,6 +891,8 @@ static void indexes(void)
     makes("the highest tag", NUMBERS(65535, 65533), NUMBERS(65535), NUMBERS(65533, 0, 1));
     makes("the lowest tag behind the highest", NUMBERS(65535, 65533, 0, 0, 1, 65533, 0, 0), NUMBERS(2, 3, 65535, 65535),
           NUMBERS(0, 1, 2, 65533, 0, 2));
+    makes("a document node", SLICE(document), SLICE(document_next), NUMBERS(1, 1, 1, 2, 2, 2, 3, 3, 3, 65534, 0, 1));
+    makes("a document node alone", NUMBERS(65535, 65534), NUMBERS(65535), NUMBERS(65534, 0, 1));
     makes("falling tags", NUMBERS(65535, 9, 0, 8, 0, 7), NUMBERS(65535, 65535, 65535), NUMBERS(7, 2, 1, 8, 1, 1, 9, 0, 1));
     makes("tags that differ in one byte", NUMBERS(65535, 256, 0, 1, 0, 257, 0, 0), NUMBERS(65535, 65535, 65535, 65535),
           NUMBERS(0, 3, 1, 1, 1, 1, 256, 0, 1, 257, 2, 1));
@@ -823,6 +924,8 @@ static void indexes(void)
     unmakes("a bad parent before a bad tag", NUMBERS(65535, 65535, 0, 2, 2, 3), 6, 2);
     unmakes("tag 65534", NUMBERS(65535, 1, 0, 65534, 1, 65535), 7, 1);
     unmakes("tag 65535", NUMBERS(65535, 1, 0, 2, 1, 65535), 7, 2);
+    unmakes("tag 65535 at node 0", NUMBERS(65535, 65535, 0, 65534), 7, 0);
+    unmakes("two document nodes", NUMBERS(65535, 65534, 0, 65534), 7, 1);
 }
 
 /* Searches by an index. */
@@ -855,6 +958,9 @@ static void descendants(void)
     descend("65534", OWN, 0, 65534, 6, 0, 0, "000000");
     descend("65535 is no star", OWN, 0, 65535, 6, 0, 0, "000000");
     descend("one node", NUMBERS(65535, 7), NUMBERS(65535), 0, 7, 1, 0, 0, "0");
+    descend("pallets below a document node", SLICE(document), SLICE(document_next), 0, 3, 7, 0, 0, "0001101");
+    descend("the document node's tag", SLICE(document), SLICE(document_next), 0, 65534, 7, 0, 0, "0000000");
+    descend("65535 below a document node", SLICE(document), SLICE(document_next), 0, 65535, 7, 0, 0, "0000000");
 
     /* the tree says where a chain begins, the index how it goes on; what it does not read may be anything */
     descend("other numbers at other tags", BY(7, 7, 3, 5, 7, 65535), 0, 3, 6, 0, 0, "001101");

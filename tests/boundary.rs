@@ -115,7 +115,11 @@ fn check_query(query: &[u16], columns: u16) -> Reply {
 }
 
 fn image(f: Image, query: &[u16], nodes: &[u16], from: &[u8], to: &mut [u8]) -> ImageReply {
-    let (t, q) = (&WAREHOUSE, query);
+    image_on(f, &WAREHOUSE, query, nodes, from, to)
+}
+
+fn image_on(f: Image, tree: &[u16], query: &[u16], nodes: &[u16], from: &[u8], to: &mut [u8]) -> ImageReply {
+    let (t, q) = (tree, query);
     unsafe {
         f(t.as_ptr(), t.len(), q.as_ptr(), q.len(), nodes.len() as u16, nodes.as_ptr(), nodes.len(), from.as_ptr(), from.len(), to.as_mut_ptr(), to.len())
     }
@@ -156,6 +160,8 @@ fn descendants(tree: &[u16], next: &[u16], start: u16, tag: u16, to: &mut [u8]) 
 }
 
 const WAREHOUSE: [u16; 12] = [65535, 1, 0, 2, 1, 3, 1, 3, 0, 2, 4, 3];
+// the same below a document node
+const DOCUMENT: [u16; 14] = [65535, 65534, 0, 1, 1, 2, 2, 3, 2, 3, 1, 2, 5, 3];
 // descendant::2[. is $0]/child::3[. is $1]
 const PALLETS: [u16; 28] = [0, 5, 0, 2, 12, 0, 0, 0, 5, 0, 1, 0, 0, 1, 0, 3, 12, 1, 0, 0, 5, 3, 4, 0, 1, 2, 5, 0];
 const FOLLOWING: [u16; 4] = [0, 7, 0, 65535];
@@ -170,6 +176,11 @@ fn main() {
     assert_eq!(check_tree(&WAREHOUSE), ACCEPTED);
     assert_eq!(check_tree(&[]), refused(5, 0));
     assert_eq!(check_tree(&[65535, 1, 1, 2]), refused(6, 1));
+    assert_eq!(check_tree(&DOCUMENT), ACCEPTED);
+    assert_eq!(check_tree(&[65535, 65535]), refused(7, 0));
+    assert_eq!(check_tree(&[65535, 65534, 0, 65534]), refused(7, 1));
+    assert_eq!(check_query(&[0, 1, 0, 65534], 0), ACCEPTED);
+    assert_eq!(check_query(&[0, 13, 0, 65534], 0), refused(11, 0));
     assert_eq!(check_query(&PALLETS, 2), ACCEPTED);
     assert_eq!(check_query(&PALLETS, 1), refused(11, 4));
 
@@ -246,7 +257,26 @@ fn main() {
     assert_eq!(image(gz_forwards, &query[..32], &[], &[1, 0, 0, 0, 0, 0], &mut set), found(1));
     assert_eq!(set, [0, 0, 0, 0, 1, 0, 7, 7]);
 
+    // `..` and `node()`, and the star, which leaves out a document node
+    assert_eq!(read(b"..", house, site, &mut query), ReadReply { number: 0, place: 0, count: 4, columns: 0 });
+    assert_eq!(query[..4], [0, 2, 0, 65534]);
+    assert_eq!(image_on(gz_forwards, &DOCUMENT, &query[..4], &[], &[0, 1, 1, 0, 0, 0, 0], &mut set), found(2));
+    assert_eq!(set, [1, 1, 0, 0, 0, 0, 0, 7]);
+    assert_eq!(read(b"parent::node()", house, site, &mut query), ReadReply { number: 0, place: 0, count: 4, columns: 0 });
+    assert_eq!(query[..4], [0, 2, 0, 65534]);
+    assert_eq!(image_on(gz_backwards, &DOCUMENT, &query[..4], &[], &[1, 0, 0, 0, 0, 0, 0], &mut set), found(1));
+    assert_eq!(set, [0, 1, 0, 0, 0, 0, 0, 7]);
+    assert_eq!(read(b"parent::*", house, site, &mut query), ReadReply { number: 0, place: 0, count: 4, columns: 0 });
+    assert_eq!(query[..4], [0, 2, 0, 65535]);
+    assert_eq!(image_on(gz_forwards, &DOCUMENT, &query[..4], &[], &[0, 1, 1, 0, 0, 0, 0], &mut set), found(1));
+    assert_eq!(set, [0, 1, 0, 0, 0, 0, 0, 7]);
+    assert_eq!(image_on(gz_backwards, &DOCUMENT, &query[..4], &[], &[1, 0, 0, 0, 0, 0, 0], &mut set), found(0));
+    assert_eq!(set, [0, 0, 0, 0, 0, 0, 0, 7]);
+
     let before = query;
+    assert_eq!(read(b"child::node(", house, site, &mut query), unread(24, 12));
+    assert_eq!(read(b"child::nodes()", house, site, &mut query), unread(24, 12));
+    assert_eq!(read(b"child::node", house, site, &mut query), unread(25, 7));
     assert_eq!(read(b"", &house[..5], &site[..6], &mut query), unread(21, 0));
     assert_eq!(read(b"", house, &site[..6], &mut query), unread(21, 1));
     assert_eq!(read(b"", house, site, &mut query), unread(23, 0));
@@ -272,7 +302,17 @@ fn main() {
     assert_eq!(index(&WAREHOUSE, &mut next, &mut tags), IndexReply { number: 0, place: 0, next: 6, tags: 9 });
     assert_eq!((next, tags), ([65535, 4, 3, 5, 65535, 65535, 7, 7], [1, 0, 1, 2, 1, 2, 3, 2, 3, 7, 7]));
 
+    let (mut below, mut document_tags) = ([7; 8], [7; 13]);
+    assert_eq!(index(&[65535, 65535], &mut below, &mut document_tags), unmade(7, 0));
+    assert_eq!(index(&DOCUMENT, &mut below, &mut document_tags), IndexReply { number: 0, place: 0, next: 7, tags: 12 });
+    assert_eq!((below, document_tags), ([65535, 65535, 5, 4, 6, 65535, 65535, 7], [1, 1, 1, 2, 2, 2, 3, 3, 3, 65534, 0, 1, 7]));
+
     let mut set = [7; 8];
+    assert_eq!(descendants(&DOCUMENT, &below[..7], 0, 3, &mut set), found(3));
+    assert_eq!(set, [0, 0, 0, 1, 1, 0, 1, 7]);
+    assert_eq!(descendants(&DOCUMENT, &below[..7], 0, 65534, &mut set), found(0));
+    assert_eq!(set, [0, 0, 0, 0, 0, 0, 0, 7]);
+    set = [7; 8];
     assert_eq!(descendants(&WAREHOUSE, &next[..6], 0, 3, &mut set), found(3));
     assert_eq!(set, [0, 0, 1, 1, 0, 1, 7, 7]);
     assert_eq!(descendants(&WAREHOUSE, &next[..6], 1, 3, &mut set[..6]), found(2));

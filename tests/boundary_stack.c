@@ -158,6 +158,7 @@ int main(void)
 {
     nested("", 0, ".", "", 0);
     nested("/child::bay", 32, "", "", 0);
+    nested("/child::node()", 32, "", "", 0);
     nested("(", 511, "..", ")", 0);
     nested(".[", 20, ".", "]", 0);
     nested(".[child::pallet and not(", 9, ".", ")]", 0);
@@ -172,11 +173,12 @@ int main(void)
     indexed(2);
     indexed(256);
 
-    /* every axis, with the star and with a tag */
+    /* every axis, with a tag, with node() and with the star */
+    static const uint16_t tests[] = {1, 65534, 65535};
     for (uint16_t axis = 0; axis <= 12; axis++)
-        for (uint32_t tag = 1; tag <= 65535; tag += 65534) {
+        for (int i = 0; i < 3; i++) {
             entries = 0;
-            entry(0, axis, 0, (uint16_t)tag);
+            entry(0, axis, 0, tests[i]);
             at_most("one step", 1);
         }
 

@@ -51,6 +51,11 @@ def entry(e, *fields):
     return changed(QUERY, 4 * e, *fields)
 
 
+def upwards(axis, test):
+    """.[. is $0]/axis::test[. is $1]"""
+    return [0, 0, 0, 65534, 12, 0, 0, 0, 5, 0, 1, 0, 0, axis, 0, test, 12, 1, 0, 0, 5, 3, 4, 0, 1, 2, 5, 0]
+
+
 TREE, QUERY, _ = make.JOBS["warehouse"]
 ROWS = listed([(1, 2), (1, 3), (4, 5)])
 T, Q = make.packed(TREE), make.packed(QUERY)
@@ -104,7 +109,9 @@ FILES = [
 
 # The tree, the query and the number of variables: 5 to 15.
 CHAIN = [65535, 1] + [n for k in range(256) for n in (k, 1)]
-STAR = [0, 0, 0, 65535]
+STAR, DOT = [0, 0, 0, 65535], [0, 0, 0, 65534]
+BELOW = [0, 1, 0, 65535, 12, 0, 0, 0, 5, 1, 2, 0, 1, 0, 3, 0, 7, 4, 0, 0]
+DOCUMENT = [65535, 65534, 0, 1, 1, 2, 2, 3, 2, 3, 1, 2, 5, 3]
 UNIONS = STAR + [n for k in range(32) for n in (STAR + [2, 2 * k, 2 * k + 1, 0])]
 TABLES = [
     ("an empty tree", [], QUERY, 2, refused(5)),
@@ -115,9 +122,12 @@ TABLES = [
     ("a node that is its own parent", changed(TREE, 2, 1), QUERY, 2, refused(6, 1)),
     ("a parent off the path", changed(TREE, 10, 2), QUERY, 2, refused(6, 5)),
     ("two bad parents and a bad tag before them", changed(changed(TREE, 3, 65535, 5), 10, 2), QUERY, 2, refused(6, 2)),
-    ("a tag of 65534", changed(TREE, 7, 65534), QUERY, 2, refused(7, 3)),
+    ("a tag of 65534 past node 0", changed(TREE, 7, 65534), QUERY, 2, refused(7, 3)),
+    ("a second document node", changed(DOCUMENT, 3, 65534), QUERY, 2, refused(7, 1)),
+    ("a document node and a tag of 65535", changed(DOCUMENT, 13, 65535), QUERY, 2, refused(7, 6)),
     ("a tag of 65535 and a query of no entry", changed(TREE, 1, 65535), [], 2, refused(7, 0)),
     ("a tag of 65533", changed(TREE, 1, 65533), QUERY, 2, ROWS),
+    ("a tag of 65534 at node 0", changed(TREE, 1, 65534), QUERY, 2, ROWS),
     ("an empty query", TREE, [], 2, refused(8)),
     ("a query of no whole entries", TREE, QUERY[:-1], 2, refused(8)),
     ("65 entries", TREE, UNIONS, 1, refused(8)),
@@ -127,7 +137,8 @@ TABLES = [
     ("a kind of 13", TREE, entry(3, 13, 0, 0, 0), 2, refused(10, 3)),
     ("an axis of 13 before a kind of 13", TREE, changed(entry(0, 0, 13, 0, 2), 12, 13), 2, refused(10, 3)),
     ("an axis of 13", TREE, entry(0, 0, 13, 0, 2), 2, refused(11, 0)),
-    ("a step's tag of 65534", TREE, entry(3, 0, 1, 0, 65534), 2, refused(11, 3)),
+    ("a composition's tag of 65534", TREE, entry(6, 1, 2, 5, 65534), 2, refused(11, 6)),
+    ("an axis of 13 with node()", TREE, entry(3, 0, 13, 0, 65534), 2, refused(11, 3)),
     ("a variable that is not there", TREE, QUERY, 1, refused(11, 4)),
     ("a right field of a step", TREE, entry(3, 0, 1, 1, 3), 2, refused(11, 3)),
     ("a right field of a variable", TREE, entry(1, 12, 0, 1, 0), 2, refused(11, 1)),
@@ -140,6 +151,23 @@ TABLES = [
     ("an operand never used", TREE, STAR + STAR, 1, refused(14, 0)),
     ("a node expression for the query", TREE, [12, 0, 0, 0], 1, refused(15, 0)),
     ("a node expression for the query, last of two", TREE, STAR + [8, 0, 0, 0], 1, refused(15, 1)),
+]
+
+# The star and node(): the teaching warehouse below a document node, and without one. Each row by hand.
+PARENTS = [(2, 1), (3, 2), (4, 2), (5, 1), (6, 5)]
+TESTS = [
+    ("bays with pallets", DOCUMENT, QUERY, 2, [(2, 3), (2, 4), (5, 6)]),
+    ("self::*[. is $0]", DOCUMENT, STAR + [12, 0, 0, 0, 5, 0, 1, 0], 1, [(x,) for x in range(1, 7)]),
+    (".[. is $0]", DOCUMENT, DOT + [12, 0, 0, 0, 5, 0, 1, 0], 1, [(x,) for x in range(7)]),
+    (".[. is $0]/parent::*[. is $1]", DOCUMENT, upwards(2, 65535), 2, PARENTS),
+    (".[. is $0]/..[. is $1]", DOCUMENT, upwards(2, 65534), 2, [(1, 0)] + PARENTS),
+    (".[. is $0]/ancestor-or-self::*[. is $1]", DOCUMENT[:6], upwards(12, 65535), 2, [(1, 1), (2, 1), (2, 2)]),
+    (".[. is $0]/ancestor-or-self::node()[. is $1]", DOCUMENT[:4], upwards(12, 65534), 2, [(0, 0), (1, 0), (1, 1)]),
+    ("//child::*[. is $0]", DOCUMENT, [0, 11, 0, 65534] + BELOW, 1, [(x,) for x in range(1, 7)]),
+    ("/descendant-or-self::*/child::*[. is $0]", DOCUMENT, [0, 11, 0, 65535] + BELOW, 1, [(x,) for x in range(2, 7)]),
+    ("self::* in a document node alone", [65535, 65534], STAR, 1, []),
+    (". in a document node alone", [65535, 65534], DOT, 1, [(0,)]),
+    ("ancestor-or-self::node() with no document node", TREE, entry(3, 0, 12, 0, 65534), 2, [(1, 0), (1, 1), (4, 0), (4, 4)]),
 ]
 
 # Answers of more than one page, and of whole pages: every row, those whose last variable is the one node with the tag 9, or
@@ -158,7 +186,8 @@ LONG = [
 
 
 def random_tree(source):
-    table, path = [65535, source.randrange(4)], [0]
+    """In every other tree node 0 is a document node."""
+    table, path = [65535, source.choice([source.randrange(4), 65534])], [0]
     for node in range(1, source.randint(1, 8)):
         del path[source.randint(1, len(path)) :]
         table += [path[-1], source.randrange(4)]
@@ -176,7 +205,7 @@ def random_query(source, columns):
         return len(table) // 4 - 1
 
     def step():
-        return add(0, source.randrange(13), 0, source.choice([0, 1, 2, 3, 65535, 65535]))
+        return add(0, source.randrange(13), 0, source.choice([0, 1, 2, 3, 65534, 65534, 65535, 65535, 65535, 65535]))
 
     def path(depth):
         kind = source.randrange(8) if depth else source.choice([0, 0, 0, 6])
@@ -232,13 +261,20 @@ def random_list(source):
     return tree, query, columns, rows
 
 
+def leaves_out(tree, query, columns, rows):
+    """Whether a query's star leaves out the document node of a tree: with node() for every star there would be other answers."""
+    widened = [n for e in range(0, len(query), 4) for n in query[e : e + 3] + [65534 if query[e + 3] == 65535 else query[e + 3]]]
+    return tree[1] == 65534 and answers(tree, widened, columns) != rows
+
+
 def random_jobs(count):
     """Random jobs. Of their lists at least three in four have gaps, neither no row nor every row, and the queries of these have
-    every kind and every axis."""
-    source, empty, full, kinds, axes = random.Random(2024), 0, 0, set(), set()
+    every kind and every axis; in at least one of twenty jobs a star leaves out a document node."""
+    source, empty, full, kinds, axes, left_out = random.Random(2024), 0, 0, set(), set(), 0
     for job in range(count):
         tree, query, columns, rows = random_list(source)
         compare("random job %d" % job, printed(random_file(source, tree, query, columns)), listed(rows))
+        left_out += leaves_out(tree, query, columns, rows)
         empty += not rows
         full += len(rows) == (len(tree) // 2) ** columns
         if 0 < len(rows) < (len(tree) // 2) ** columns:
@@ -246,6 +282,8 @@ def random_jobs(count):
             axes.update(axis for kind, axis in zip(query[0::4], query[1::4]) if kind == 0)
     if 4 * (empty + full) > count:
         problems.append("of %d random lists %d have no row and %d every row: too few have gaps" % (count, empty, full))
+    if 20 * left_out < count:
+        problems.append("of %d random jobs only %d have a star that leaves out a document node" % (count, left_out))
     if len(kinds) < 13 or len(axes) < 13:
         problems.append("the random lists with gaps have only the kinds %s and the axes %s" % (sorted(kinds), sorted(axes)))
 
@@ -292,7 +330,7 @@ for name, bytes_of, wanted in FILES:
     compare(name, printed(bytes_of), wanted)
 for name, tree, query, columns, wanted in TABLES:
     compare(name, printed(make.job(tree, query, columns)), wanted)
-for name, tree, query, columns, rows in LONG:
+for name, tree, query, columns, rows in TESTS + LONG:
     compare(name, printed(make.job(tree, query, columns)), listed(rows))
 examples()
 inputs()

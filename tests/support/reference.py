@@ -1,6 +1,9 @@
 """Core XPath over tree tables and query tables, written apart from the engine: each kind of entry as a relation, straight
 from its definition. A relation among n nodes is a list of n whole numbers; bit y of number x says that (x, y) is a pair."""
 
+DOCUMENT = 65534  # the tag of a document node, which only node 0 may have
+ANY_NODE, STAR = 65534, 65535  # the name tests that are no tags: `node()`, and the star
+
 
 def nodes_of(bits):
     """The nodes of a set, lowest first."""
@@ -46,7 +49,10 @@ class Tree:
             self.axes += [odd, converse(odd)]
 
     def passing(self, test):
-        return self.all if test == 65535 else sum(1 << y for y in range(self.n) if self.tag[y] == test)
+        """The nodes that pass a name test: all by `node()`, all but a document node by the star, and by a tag those that have it."""
+        if test == ANY_NODE:
+            return self.all
+        return sum(1 << y for y in range(self.n) if (self.tag[y] != DOCUMENT if test == STAR else self.tag[y] == test))
 
 
 def evaluated(tree, query, assignment):

@@ -70,9 +70,10 @@ fn add_word(chart: &mut spans::Chart, text: &[u8], place: usize, word: usize) {
     spans::add(chart, word, place, part);
 }
 
+// All words at a place.
 fn add_words(chart: &mut spans::Chart, text: &[u8], place: usize) {
     let mut word = 0;
-    while word < 34 {
+    while word < words::COUNT {
         add_word(chart, text, place, word);
         word += 1;
     }

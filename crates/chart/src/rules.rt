@@ -3,56 +3,56 @@ use super::spans;
 use super::words;
 
 // Any name, and nothing at all.
-pub const NAME: usize = 34;
+pub const NAME: usize = 35;
 
-pub const EMPTY: usize = 35;
+pub const EMPTY: usize = 36;
 
-const AXIS: usize = 36;
+const AXIS: usize = 37;
 
-const TEST_OF_NAME: usize = 37;
+const NAME_TEST: usize = 38;
 
-const NUMBER: usize = 38;
+const NUMBER: usize = 39;
 
-const PRIM: usize = 39;
+const PRIM: usize = 40;
 
-const FILTER: usize = 40;
+const FILTER: usize = 41;
 
-const FILTERS: usize = 41;
+const FILTERS: usize = 42;
 
-const STEP: usize = 42;
+const STEP: usize = 43;
 
-const SLASH: usize = 43;
+const SLASH: usize = 44;
 
-const RUN: usize = 44;
+const RUN: usize = 45;
 
-const MORE_RUN: usize = 45;
+const MORE_RUN: usize = 46;
 
-const ROOTED: usize = 46;
+const ROOTED: usize = 47;
 
-const INTER: usize = 47;
+const INTER: usize = 48;
 
-const MORE_INTER: usize = 48;
+const MORE_INTER: usize = 49;
 
-pub const PATH: usize = 49;
+pub const PATH: usize = 50;
 
-const MORE_PATH: usize = 50;
+const MORE_PATH: usize = 51;
 
-const UNIT: usize = 51;
+const UNIT: usize = 52;
 
-const CONJ: usize = 52;
+const CONJ: usize = 53;
 
-const MORE_CONJ: usize = 53;
+const MORE_CONJ: usize = 54;
 
-const TEST: usize = 54;
+const TEST: usize = 55;
 
-const MORE_TEST: usize = 55;
+const MORE_TEST: usize = 56;
 
 // A test that is no whole path.
-const PROPER: usize = 56;
+const PROPER: usize = 57;
 
 // Each rule: a symbol, and up to three of which a text of it is made, one behind the other. At one place, the first of the three
 // comes in the list before the rule, and each of the others starts later.
-const RULES: [[usize; 4]; 51] = [
+const RULES: [[usize; 4]; 52] = [
     [AXIS, 0, EMPTY, EMPTY],
     [AXIS, 1, EMPTY, EMPTY],
     [AXIS, 2, EMPTY, EMPTY],
@@ -66,12 +66,13 @@ const RULES: [[usize; 4]; 51] = [
     [AXIS, 10, EMPTY, EMPTY],
     [AXIS, 11, EMPTY, EMPTY],
     [AXIS, 12, EMPTY, EMPTY],
-    [TEST_OF_NAME, words::STAR, EMPTY, EMPTY],
-    [TEST_OF_NAME, NAME, EMPTY, EMPTY],
+    [NAME_TEST, words::STAR, EMPTY, EMPTY],
+    [NAME_TEST, words::ANY_NODE, EMPTY, EMPTY],
+    [NAME_TEST, NAME, EMPTY, EMPTY],
     [NUMBER, words::ZERO, EMPTY, EMPTY],
     [NUMBER, words::ONE, EMPTY, EMPTY],
     [NUMBER, words::TWO, EMPTY, EMPTY],
-    [PRIM, AXIS, words::DOUBLE_COLON, TEST_OF_NAME],
+    [PRIM, AXIS, words::DOUBLE_COLON, NAME_TEST],
     [PRIM, words::DOT, EMPTY, EMPTY],
     [PRIM, words::DOTS, EMPTY, EMPTY],
     [PRIM, words::DOLLAR, NUMBER, EMPTY],
@@ -107,7 +108,7 @@ const RULES: [[usize; 4]; 51] = [
 ];
 
 fn row(rule: usize) -> [usize; 4] {
-    if rule < 51 {
+    if rule < 52 {
         return RULES[rule];
     }
     [EMPTY; 4]
@@ -139,7 +140,7 @@ fn add_proper(chart: &mut spans::Chart, place: usize) {
 // All symbols of the grammar's own at a place.
 pub fn add_all(chart: &mut spans::Chart, place: usize) {
     let mut rule = 0;
-    while rule < 51 {
+    while rule < 52 {
         add_rule(chart, rule, place);
         rule += 1;
     }

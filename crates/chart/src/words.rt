@@ -47,10 +47,15 @@ pub const NOT: usize = 32;
 
 pub const IS: usize = 33;
 
+pub const ANY_NODE: usize = 34;
+
+// How many words there are.
+pub const COUNT: usize = 35;
+
 // What fills a word up to 20 bytes.
 const END: u8 = b'~';
 
-const WORDS: [[u8; 20]; 34] = [
+const WORDS: [[u8; 20]; 35] = [
     *b"self~~~~~~~~~~~~~~~~",
     *b"child~~~~~~~~~~~~~~~",
     *b"parent~~~~~~~~~~~~~~",
@@ -85,11 +90,12 @@ const WORDS: [[u8; 20]; 34] = [
     *b" and ~~~~~~~~~~~~~~~",
     *b"not(~~~~~~~~~~~~~~~~",
     *b". is $~~~~~~~~~~~~~~",
+    *b"node()~~~~~~~~~~~~~~",
 ];
 
 // The bytes of a word, and END behind them.
 fn row(word: usize) -> [u8; 20] {
-    if word < 34 {
+    if word < COUNT {
         return WORDS[word];
     }
     [END; 20]

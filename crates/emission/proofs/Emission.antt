@@ -8,28 +8,28 @@ use mathlib.Core.List.{List, [], _∷_, _++_, append-assoc, append-nil}
 use lib.ListN.{drop}
 use lib.Dec.{leb, ltb}
 use borrow.Author.Tests.{leb-true, leb-false, le-leb, lt-leb, lt-ltb, le-ltb, not-true}
-use Rattle.model.proofs.Booleans.{no-yes, yes-left, or-cases}
+use Rattle.model.proofs.Booleans.{no-yes, yes-left, or-left, or-right, or-cases}
 use Rattle.model.specs.Encoding.{pathTerm, exprTerm}
 use Rattle.grammar.specs.Grammar.{Expr, Op, Slash, from, axes, variables, level, logical, fits}
 use Rattle.grammar.specs.Grammar.Slash.{one, two}
 use Rattle.grammar.specs.Grammar.Op.{or, and, union, intersect, except, slash}
-use Rattle.grammar.specs.Grammar.Expr.{star, named, dot, dots, variable, bracket, negate, is, filter, rooted, join}
+use Rattle.grammar.specs.Grammar.Expr.{wildcard, named, dot, dots, variable, bracket, negate, is, filter, rooted, join}
 use Rattle.grammar.specs.Online.{Choice}
 use Rattle.grammar.specs.Online.Choice.{choice}
-use Rattle.grammar.specs.Automaton.{Frame, Focus, State, takesTest, floor, opened, closed, isPath, isDot, isNamed, longer, maySlash, slashed, mayFilter, filtered, mayParen, parenthesised, each, axisChoice, variableChoice, isChoice, mayJoin, joined, next, start, whole, outcomeAt}
+use Rattle.grammar.specs.Automaton.{Frame, Focus, State, takesTest, floor, opened, closed, isPath, isDot, isNamed, axisOf, longer, asNode, maySlash, slashed, mayFilter, filtered, mayParen, parenthesised, each, axisChoice, variableChoice, isChoice, mayJoin, joined, next, start, whole, outcomeAt}
 use Rattle.grammar.specs.Automaton.Frame.{left, lead, paren, negation, test}
 use Rattle.grammar.specs.Automaton.Focus.{want, axis, have}
 use Rattle.grammar.specs.Automaton.State.{state}
 use Rattle.grammar.specs.Automaton.Outcome.{accepted, refused}
-use Rattle.grammar.specs.Typed.{pathOf, below, exprOf}
+use Rattle.grammar.specs.Typed.{belowBy, exprBy, pathBy, pathOf, below, exprOf}
 use Rattle.grammar.proofs.Choices.{Indexed, Every}
 use Rattle.grammar.proofs.Reading.{fits-path, floor-most}
-use Rattle.grammar.proofs.Soundness.{Fine, After, dot-is, closing, joins-paths, path-closed}
+use Rattle.grammar.proofs.Soundness.{Fine, After, by-name, node-named, closing, joins-paths, path-closed}
 use Rattle.machine.specs.Machine.{opCode, isSlash, codesIn, codes, focusCode, top, binds, pops, sort}
 use Rattle.machine.proofs.Machine.{binds-op, binds-either, sort-op, closed-sort, opened-codes, focus-named, focus-dot, focus-path}
 use Rattle.entries.specs.Postfix.{Item, postfix}
 use Rattle.entries.specs.Postfix.Item.{leaf, unary, binary}
-use Rattle.emission.specs.Items.{asTest, starStep, gapItems, closeItems, pending, slashItems, wantsTest, lastItems, wordItems, endItems}
+use Rattle.emission.specs.Items.{asTest, nodeStep, gapItems, closeItems, pending, slashItems, wantsTest, lastItems, wordItems, endItems}
 
 -- the innermost gap is that behind a leading '//'
 abbrev pub double : List Frame → Bool
@@ -81,7 +81,7 @@ double-plain (test e ∷ fs) d = no-yes refl d
 
 -- what holds of a name's axis and bytes, if the expression is a name
 abbrev pub NamedBy : (ℕ → List ℕ → Type 0) → Expr → Type 0
-NamedBy P (star a) = Unit {0}
+NamedBy P (wildcard a w) = Unit {0}
 NamedBy P (named a name) = P a name
 NamedBy P dot = Unit {0}
 NamedBy P dots = Unit {0}
@@ -134,19 +134,6 @@ each-from P b f l (suc n) k h r =
 abbrev pub AxisOn : State → ℕ → State → Type 0
 AxisOn s k x = (a : ℕ) → OnAxis s a → OnAxis x (cond (ltb k 13) k a)
 
-longer-axis : (e : Expr) (b a : ℕ) → isNamed e ≡ true → NamedBy (λ i name. a ≡ i) e → NamedBy (λ i name. a ≡ i) (longer e b)
-longer-axis (star i) b a n h = tt
-longer-axis (named i name) b a n h = h
-longer-axis dot b a n h = tt
-longer-axis dots b a n h = tt
-longer-axis (variable k) b a n h = tt
-longer-axis (bracket e) b a n h = tt
-longer-axis (negate e) b a n h = tt
-longer-axis (is k) b a n h = tt
-longer-axis (filter e t) b a n h = tt
-longer-axis (rooted s e) b a n h = tt
-longer-axis (join o l r) b a n h = tt
-
 filtered-axis : (gs : List Frame) (d : Expr) (a : ℕ) → mayFilter gs ≡ true → OnAxis (filtered gs d) a
 filtered-axis [] d a m = no-yes refl m
 filtered-axis (left l o ∷ fs) d a m = no-yes refl m
@@ -174,7 +161,7 @@ axis-on (state fs want) =
     named-axis v a l = rw (lt-ltb (0 + v) 13 (omega arith)) (omega arith)
 axis-on (state fs (axis b)) = (λ i h a p. p, λ a p. tt)
 axis-on (state fs (have e)) = (
-  λ n b k a p. longer-axis e b a n p,
+  λ n b k a. by-name (λ (x : Expr). OnAxis (state fs (have x)) a → OnAxis (state fs (have (longer x b))) a) (λ i name p. p) e n,
   each-from (AxisOn (state fs (have e))) 20 (isChoice fs e) _ 3 0 (λ v l. (λ _ a p. tt, tt)) (
     λ _ a p. tt,
     (
@@ -183,7 +170,7 @@ axis-on (state fs (have e)) = (
         λ m a p. filtered-axis (opened 0 fs) (closed 0 fs e) a m,
         (
           λ m a p. parenthesised-axis (opened 0 fs) (closed 0 fs e) a m,
-          (λ _ a p. tt, (λ _ a p. tt, (λ _ a p. tt, (λ _ a p. tt, (λ _ a p. tt, (λ _ a p. tt, tt)))))),
+          (λ _ a p. tt, (λ _ a p. tt, (λ _ a p. tt, (λ _ a p. tt, (λ _ a p. tt, (λ _ a p. tt, (λ _ a p. tt, tt))))))),
         ),
       ),
     ),
@@ -213,8 +200,8 @@ module _ (tag : List ℕ → ℕ) where
 
   -- a path as a node expression has one item more
   test-value : (e : Expr) → testItems e ≡ value e ++ asTest (isPath e)
-  unfolding isPath pathOf exprOf pathTerm exprTerm postfix
-  test-value (star a) = refl
+  unfolding isPath pathBy exprBy pathTerm exprTerm postfix
+  test-value (wildcard a w) = refl
   test-value (named a name) = refl
   test-value dot = refl
   test-value dots = refl
@@ -237,9 +224,9 @@ module _ (tag : List ℕ → ℕ) where
   tested e a c = ap (λ (l : List Item). a ++ l) (ap (λ (l : List Item). l ++ c) (test-value e) ∙ append-assoc (value e) (asTest (isPath e)) c)
 
   -- behind '//' one step is composed with the step that '//' stands for
-  below-step : (e : Expr) → fits 6 false e ≡ true → belowItems e ≡ starStep 11 ∷ (pathItems e ++ (binary 1 ∷ []))
-  unfolding fits below pathOf pathTerm postfix
-  below-step (star a) h = refl
+  below-step : (e : Expr) → fits 6 false e ≡ true → belowItems e ≡ nodeStep 11 ∷ (pathItems e ++ (binary 1 ∷ []))
+  unfolding fits belowBy pathBy pathTerm postfix
+  below-step (wildcard a w) h = refl
   below-step (named a name) h = refl
   below-step dot h = refl
   below-step dots h = refl
@@ -266,19 +253,19 @@ module _ (tag : List ℕ → ℕ) where
     where
       go : (b : Bool)
           → cond b (belowItems l) (pathItems l) ++ (pathItems r ++ (binary 1 ∷ [])) ≡ cond b (belowItems (join (slash one) l r)) (pathItems (join (slash one) l r))
-      go true = unfold below pathTerm postfix in refl
-      go false = unfold pathOf pathTerm postfix in refl
+      go true = unfold belowBy pathTerm postfix in refl
+      go false = unfold pathBy pathTerm postfix in refl
 
   run-two : (fs : List Frame) (l r : Expr)
-      → (runItems fs l ++ (starStep 11 ∷ binary 1 ∷ [])) ++ (pathItems r ++ (binary 1 ∷ [])) ≡ runItems fs (join (slash two) l r)
+      → (runItems fs l ++ (nodeStep 11 ∷ binary 1 ∷ [])) ++ (pathItems r ++ (binary 1 ∷ [])) ≡ runItems fs (join (slash two) l r)
   unfolding runItems
   run-two fs l r = go (double fs)
     where
       go : (b : Bool)
-          → (cond b (belowItems l) (pathItems l) ++ (starStep 11 ∷ binary 1 ∷ [])) ++ (pathItems r ++ (binary 1 ∷ []))
+          → (cond b (belowItems l) (pathItems l) ++ (nodeStep 11 ∷ binary 1 ∷ [])) ++ (pathItems r ++ (binary 1 ∷ []))
           ≡ cond b (belowItems (join (slash two) l r)) (pathItems (join (slash two) l r))
-      go true = unfold below pathTerm postfix in refl
-      go false = unfold pathOf pathTerm postfix in refl
+      go true = unfold belowBy pathTerm postfix in refl
+      go false = unfold pathBy pathTerm postfix in refl
 
   -- the left operand of an operator whose gap stands in the gaps fs
   unfoldable pub operand : Op → List Frame → Expr → List Item
@@ -288,14 +275,14 @@ module _ (tag : List ℕ → ℕ) where
   operand intersect fs l = pathItems l
   operand except fs l = pathItems l
   operand (slash one) fs l = runItems fs l
-  operand (slash two) fs l = runItems fs l ++ (starStep 11 ∷ binary 1 ∷ [])
+  operand (slash two) fs l = runItems fs l ++ (nodeStep 11 ∷ binary 1 ∷ [])
 
   -- what has been written before a gap; the flag says that what stands in it is a run of steps, as in `codesIn`
   unfoldable pub emittedIn : Bool → List Frame → List Item
   emittedIn run [] = []
   emittedIn run (left l o ∷ fs) = emittedIn (isSlash o) fs ++ operand o fs l
   emittedIn run (lead one ∷ fs) = emittedIn false fs
-  emittedIn run (lead two ∷ fs) = emittedIn false fs ++ cond run [] (starStep 11 ∷ [])
+  emittedIn run (lead two ∷ fs) = emittedIn false fs ++ cond run [] (nodeStep 11 ∷ [])
   emittedIn run (paren ∷ fs) = emittedIn false fs
   emittedIn run (negation ∷ fs) = emittedIn false fs
   emittedIn run (test e ∷ fs) = emittedIn false fs ++ pathItems e
@@ -328,13 +315,13 @@ module _ (tag : List ℕ → ℕ) where
       plain a k p = ap (λ (l : List Item). a ++ (l ++ (binary k ∷ []))) (value-path e p)
 
       go : (o : Op) → (not (logical o) ≡ true → isPath e ≡ true) → operand o fs x ++ (value e ++ gapItems (opCode o) (isPath e)) ≡ standing (isSlash o) fs (join o x e)
-      go or p = unfold operand standing isPath exprOf exprTerm postfix in sym (tested e (testItems x) (binary 11 ∷ []))
-      go and p = unfold operand standing isPath exprOf exprTerm postfix in sym (tested e (testItems x) (binary 10 ∷ []))
-      go union p = unfold operand standing isPath pathOf pathTerm postfix in plain (pathItems x) 2 (p refl)
-      go intersect p = unfold operand standing isPath pathOf pathTerm postfix in plain (pathItems x) 3 (p refl)
-      go except p = unfold operand standing isPath pathOf pathTerm postfix in plain (pathItems x) 4 (p refl)
+      go or p = unfold operand standing isPath exprBy exprTerm postfix in sym (tested e (testItems x) (binary 11 ∷ []))
+      go and p = unfold operand standing isPath exprBy exprTerm postfix in sym (tested e (testItems x) (binary 10 ∷ []))
+      go union p = unfold operand standing isPath pathBy pathTerm postfix in plain (pathItems x) 2 (p refl)
+      go intersect p = unfold operand standing isPath pathBy pathTerm postfix in plain (pathItems x) 3 (p refl)
+      go except p = unfold operand standing isPath pathBy pathTerm postfix in plain (pathItems x) 4 (p refl)
       go (slash one) p = unfold operand standing in plain (runItems fs x) 1 (p refl) ∙ run-one fs x e
-      go (slash two) p = unfold operand standing in plain (runItems fs x ++ (starStep 11 ∷ binary 1 ∷ [])) 1 (p refl) ∙ run-two fs x e
+      go (slash two) p = unfold operand standing in plain (runItems fs x ++ (nodeStep 11 ∷ binary 1 ∷ [])) 1 (p refl) ∙ run-two fs x e
 
   -- e stands in the gaps fs, and closes those that bind at n or tighter: it is a path wherever one is asked for, and one step behind '//'
   record Stands (run : Bool) (n : ℕ) (fs : List Frame) (e : Expr) : Type 0 where
@@ -395,18 +382,18 @@ module _ (tag : List ℕ → ℕ) where
   lead-stays n fs e h = rw h
 
   root-one : (e : Expr) (c : List Item) → pathItems e ++ ((unary 7 ∷ []) ++ c) ≡ pathItems (rooted one e) ++ c
-  unfolding pathOf pathTerm postfix
+  unfolding pathBy pathTerm postfix
   root-one e c = sym (append-assoc (pathItems e) (unary 7 ∷ []) c)
 
   module _ (e : Expr) (plain : isPath e ≡ true) (a : List Item) where
     rooted-items : (r : Bool) (c : List Item) → (r ≡ false → fits 6 false e ≡ true)
-        → (a ++ cond r [] (starStep 11 ∷ [])) ++ (cond r (belowItems e) (value e) ++ (cond r [] (binary 1 ∷ []) ++ ((unary 7 ∷ []) ++ c))) ≡ a ++ (pathItems (rooted two e) ++ c)
-    unfolding pathOf pathTerm postfix
+        → (a ++ cond r [] (nodeStep 11 ∷ [])) ++ (cond r (belowItems e) (value e) ++ (cond r [] (binary 1 ∷ []) ++ ((unary 7 ∷ []) ++ c))) ≡ a ++ (pathItems (rooted two e) ++ c)
+    unfolding pathBy pathTerm postfix
     rooted-items true c k = rw (append-nil a) (simp append-assoc)
     rooted-items false c k = rw (value-path e plain, below-step e (k refl)) (simp append-assoc)
 
     step-items : (r : Bool) → (r ≡ false → fits 6 false e ≡ true)
-        → (a ++ cond r [] (starStep 11 ∷ [])) ++ (cond r (belowItems e) (value e) ++ (cond r [] (binary 1 ∷ []) ++ [])) ≡ (a ++ []) ++ belowItems e
+        → (a ++ cond r [] (nodeStep 11 ∷ [])) ++ (cond r (belowItems e) (value e) ++ (cond r [] (binary 1 ∷ []) ++ [])) ≡ (a ++ []) ++ belowItems e
     step-items true k = rw (append-nil (belowItems e))
     step-items false k = rw (value-path e plain, below-step e (k refl)) (simp append-assoc)
 
@@ -439,12 +426,12 @@ module _ (tag : List ℕ → ℕ) where
           ∙ ih
       go false p ih = unfold emittedIn in stays n r (lead one ∷ fs) e refl s
   closes (lead two ∷ fs) n r e l f s =
-      ap (λ (c : List Item). (emittedIn false fs ++ cond r [] (starStep 11 ∷ [])) ++ (standing r (lead two ∷ fs) e ++ c)) (lead-close n r (isPath e) (codesIn false fs) l)
+      ap (λ (c : List Item). (emittedIn false fs ++ cond r [] (nodeStep 11 ∷ [])) ++ (standing r (lead two ∷ fs) e ++ c)) (lead-close n r (isPath e) (codesIn false fs) l)
       ∙ go (leb n 4) refl (closes fs n false (rooted two e) l (f .1) (rooted-stands n two e fs (f .0)))
     where
       go : (t : Bool) → leb n 4 ≡ t
           → emittedIn false fs ++ (pathItems (rooted two e) ++ closeItems n (codesIn false fs) true) ≡ emittedIn (leb 5 n) (opened n fs) ++ standing (leb 5 n) (opened n fs) (closed n fs (rooted two e))
-          → (emittedIn false fs ++ cond r [] (starStep 11 ∷ [])) ++ (cond r (belowItems e) (value e) ++ (cond r [] (binary 1 ∷ []) ++ cond t ((unary 7 ∷ []) ++ closeItems n (codesIn false fs) true) []))
+          → (emittedIn false fs ++ cond r [] (nodeStep 11 ∷ [])) ++ (cond r (belowItems e) (value e) ++ (cond r [] (binary 1 ∷ []) ++ cond t ((unary 7 ∷ []) ++ closeItems n (codesIn false fs) true) []))
           ≡ emittedIn (leb 5 n) (cond t (opened n fs) (lead two ∷ fs)) ++ standing (leb 5 n) (cond t (opened n fs) (lead two ∷ fs)) (cond t (closed n fs (rooted two e)) e)
       go true p ih =
           rooted-items e (s .plain refl) (emittedIn false fs) r (closeItems n (codesIn false fs) true) (λ q. s .single q refl) ∙ ih
@@ -481,9 +468,9 @@ module _ (tag : List ℕ → ℕ) where
 
   -- what is pending is written
   pended : (e : Expr) (a g : ℕ) → NamedBy (λ b name. a ≡ b) e → NamedBy (λ b name. g ≡ tag name) e
-      → cond (isNamed e || isDot e) [] (value e) ++ cond (isNamed e) (leaf 0 a g ∷ []) (cond (isDot e) (starStep 0 ∷ []) []) ≡ value e
-  unfolding isPath pathOf pathTerm postfix
-  pended (star b) a g p q = refl
+      → cond (isNamed e || isDot e) [] (value e) ++ cond (isNamed e) (leaf 0 a g ∷ []) (cond (isDot e) (nodeStep 0 ∷ []) []) ≡ value e
+  unfolding isPath pathBy pathTerm postfix
+  pended (wildcard b w) a g p q = refl
   pended (named b name) a g p q = ap (λ (i : ℕ). leaf 0 i g ∷ []) p ∙ ap (λ (i : ℕ). leaf 0 b i ∷ []) q
   pended dot a g p q = refl
   pended dots a g p q = refl
@@ -500,7 +487,7 @@ module _ (tag : List ℕ → ℕ) where
 
   -- ']', ')' and a slash: what the state after them has more
   filter-items : (gs : List Frame) (d : Expr) → mayFilter gs ≡ true → written (filtered gs d) ≡ (emitted gs ++ value d) ++ (asTest (isPath d) ++ (binary 5 ∷ []))
-  unfolding emittedIn isPath pathOf pathTerm postfix
+  unfolding emittedIn isPath pathBy pathTerm postfix
   filter-items [] d m = no-yes refl m
   filter-items (left l o ∷ fs) d m = no-yes refl m
   filter-items (lead s ∷ fs) d m = no-yes refl m
@@ -511,7 +498,7 @@ module _ (tag : List ℕ → ℕ) where
 
   paren-items : (gs : List Frame) (d : Expr) → mayParen gs ≡ true
       → written (parenthesised gs d) ≡ (emitted gs ++ value d) ++ (asTest (wantsTest 26 (top (codes gs)) && isPath d) ++ lastItems 26 (top (codes gs)))
-  unfolding emittedIn codesIn isPath pathOf exprOf exprTerm postfix
+  unfolding emittedIn codesIn isPath pathBy exprBy exprTerm postfix
   paren-items [] d m = no-yes refl m
   paren-items (left l o ∷ fs) d m = no-yes refl m
   paren-items (lead s ∷ fs) d m = no-yes refl m
@@ -530,7 +517,7 @@ module _ (tag : List ℕ → ℕ) where
     full : written (state fs (have e)) ++ pending (focusCode (have e)) a g ≡ emitted fs ++ value e
     full =
         rw (focus-named e, focus-dot e)
-        (append-assoc (emitted fs) (cond (isNamed e || isDot e) [] (value e)) (cond (isNamed e) (leaf 0 a g ∷ []) (cond (isDot e) (starStep 0 ∷ []) []))
+        (append-assoc (emitted fs) (cond (isNamed e || isDot e) [] (value e)) (cond (isNamed e) (leaf 0 a g ∷ []) (cond (isDot e) (nodeStep 0 ∷ []) []))
         ∙ ap (λ (l : List Item). emitted fs ++ l) (pended e a g on tagged))
 
     stand : (n : ℕ) → (leb 5 n ≡ true → isPath e ≡ true) → Stands false n fs e
@@ -544,11 +531,11 @@ module _ (tag : List ℕ → ℕ) where
 
     -- and the gaps closed
     shut : (n : ℕ) (rest : List Item) → n ≤ 5 → (leb 5 n ≡ true → isPath e ≡ true)
-        → written (state fs (have e)) ++ (pending (focusCode (have e)) a g ++ (closeItems n (codes fs) (ltb (focusCode (have e)) 5) ++ rest))
+        → written (state fs (have e)) ++ (pending (focusCode (have e)) a g ++ (closeItems n (codes fs) (ltb 2 (focusCode (have e))) ++ rest))
         ≡ (emittedIn (leb 5 n) (opened n fs) ++ standing (leb 5 n) (opened n fs) (closed n fs e)) ++ rest
     shut n rest l h =
-        group (written (state fs (have e))) (pending (focusCode (have e)) a g) (closeItems n (codes fs) (ltb (focusCode (have e)) 5))
-        ∙ ap (λ (x : List Item). (x ++ closeItems n (codes fs) (ltb (focusCode (have e)) 5)) ++ rest) full
+        group (written (state fs (have e))) (pending (focusCode (have e)) a g) (closeItems n (codes fs) (ltb 2 (focusCode (have e))))
+        ∙ ap (λ (x : List Item). (x ++ closeItems n (codes fs) (ltb 2 (focusCode (have e)))) ++ rest) full
         ∙ ap (λ (b : Bool). ((emitted fs ++ value e) ++ closeItems n (codes fs) b) ++ rest) (focus-path e)
         ∙ ap (λ (x : List Item). x ++ rest) (append-assoc (emitted fs) (value e) (closeItems n (codes fs) (isPath e)) ∙ done)
       where
@@ -559,12 +546,12 @@ module _ (tag : List ℕ → ℕ) where
         done = closes-value n fs e (closes fs n false e l fine (stand n h))
 
     -- whether a path then stands in the innermost gap
-    kind : (n : ℕ) → leb n 4 ≡ true → isPath (closed n fs e) ≡ sort n (codes fs) (ltb (focusCode (have e)) 5)
+    kind : (n : ℕ) → leb n 4 ≡ true → isPath (closed n fs e) ≡ sort n (codes fs) (ltb 2 (focusCode (have e)))
     kind n h = closed-sort fs false n e (le-leb n 5 (let q : n ≤ 4 = leb-true n 4 h in omega arith)) h ∙ ap (sort n (codes fs)) (sym (focus-path e))
 
     closed-value : (n : ℕ) (rest : List Item) → leb n 4 ≡ true
         → (emitted (opened n fs) ++ value (closed n fs e)) ++ rest
-        ≡ written (state fs (have e)) ++ (pending (focusCode (have e)) a g ++ (closeItems n (codes fs) (ltb (focusCode (have e)) 5) ++ rest))
+        ≡ written (state fs (have e)) ++ (pending (focusCode (have e)) a g ++ (closeItems n (codes fs) (ltb 2 (focusCode (have e))) ++ rest))
     unfolding standing
     closed-value n rest h =
         ap (λ (b : Bool). (emittedIn b (opened n fs) ++ standing b (opened n fs) (closed n fs e)) ++ rest) (sym low) ∙ sym (shut n rest small (λ p. no-yes low p))
@@ -583,7 +570,7 @@ module _ (tag : List ℕ → ℕ) where
     filter-turn m =
         filter-items (opened 0 fs) (closed 0 fs e) m
         ∙ ap (λ (b : Bool). (emitted (opened 0 fs) ++ value (closed 0 fs e)) ++ (asTest b ++ (binary 5 ∷ []))) (kind 0 refl)
-        ∙ closed-value 0 (asTest (sort 0 (codes fs) (ltb (focusCode (have e)) 5)) ++ (binary 5 ∷ [])) refl
+        ∙ closed-value 0 (asTest (sort 0 (codes fs) (ltb 2 (focusCode (have e)))) ++ (binary 5 ∷ [])) refl
 
     paren-turn : mayParen (opened 0 fs) ≡ true
         → written (parenthesised (opened 0 fs) (closed 0 fs e)) ≡ written (state fs (have e)) ++ wordItems (focusCode (have e)) (codes fs) 26 a g
@@ -592,7 +579,7 @@ module _ (tag : List ℕ → ℕ) where
         paren-items (opened 0 fs) (closed 0 fs e) m
         ∙ ap (λ (t : List ℕ). stood ++ (asTest (wantsTest 26 (top t) && isPath (closed 0 fs e)) ++ lastItems 26 (top t))) (opened-codes fs 0 false false refl refl)
         ∙ ap (λ (b : Bool). stood ++ (asTest (wantsTest 26 inner && b) ++ lastItems 26 inner)) (kind 0 refl)
-        ∙ closed-value 0 (asTest (wantsTest 26 inner && sort 0 (codes fs) (ltb (focusCode (have e)) 5)) ++ lastItems 26 inner) refl
+        ∙ closed-value 0 (asTest (wantsTest 26 inner && sort 0 (codes fs) (ltb 2 (focusCode (have e)))) ++ lastItems 26 inner) refl
       where
         stood : List Item
         stood = emitted (opened 0 fs) ++ value (closed 0 fs e)
@@ -604,16 +591,16 @@ module _ (tag : List ℕ → ℕ) where
 
     logical-turn : (n : ℕ) → leb n 4 ≡ true
         → emitted (opened n fs) ++ testItems (closed n fs e)
-        ≡ written (state fs (have e)) ++ (pending (focusCode (have e)) a g ++ (closeItems n (codes fs) (ltb (focusCode (have e)) 5) ++ (asTest (sort n (codes fs) (ltb (focusCode (have e)) 5)) ++ [])))
+        ≡ written (state fs (have e)) ++ (pending (focusCode (have e)) a g ++ (closeItems n (codes fs) (ltb 2 (focusCode (have e))) ++ (asTest (sort n (codes fs) (ltb 2 (focusCode (have e)))) ++ [])))
     logical-turn n h =
         ap (λ (l : List Item). emitted (opened n fs) ++ l) (sym (append-nil (testItems (closed n fs e))))
         ∙ behind-test (closed n fs e) (emitted (opened n fs)) []
         ∙ ap (λ (b : Bool). (emitted (opened n fs) ++ value (closed n fs e)) ++ (asTest b ++ [])) (kind n h)
-        ∙ closed-value n (asTest (sort n (codes fs) (ltb (focusCode (have e)) 5)) ++ []) h
+        ∙ closed-value n (asTest (sort n (codes fs) (ltb 2 (focusCode (have e)))) ++ []) h
 
     path-turn : (n : ℕ) → leb n 4 ≡ true → 2 ≤ n → isPath e ≡ true
         → emitted (opened n fs) ++ pathItems (closed n fs e)
-        ≡ written (state fs (have e)) ++ (pending (focusCode (have e)) a g ++ (closeItems n (codes fs) (ltb (focusCode (have e)) 5) ++ []))
+        ≡ written (state fs (have e)) ++ (pending (focusCode (have e)) a g ++ (closeItems n (codes fs) (ltb 2 (focusCode (have e))) ++ []))
     path-turn n h l p =
         ap (λ (x : List Item). emitted (opened n fs) ++ x) (sym (value-path (closed n fs e) (path-closed fs n e l p)))
         ∙ sym (append-nil (emitted (opened n fs) ++ value (closed n fs e)))
@@ -621,7 +608,7 @@ module _ (tag : List ℕ → ℕ) where
 
     slash-turn : isPath e ≡ true
         → emittedIn true (opened 5 fs) ++ runItems (opened 5 fs) (closed 5 fs e)
-        ≡ written (state fs (have e)) ++ (pending (focusCode (have e)) a g ++ (closeItems 5 (codes fs) (ltb (focusCode (have e)) 5) ++ []))
+        ≡ written (state fs (have e)) ++ (pending (focusCode (have e)) a g ++ (closeItems 5 (codes fs) (ltb 2 (focusCode (have e))) ++ []))
     slash-turn p =
         sym (append-nil (emittedIn true (opened 5 fs) ++ runItems (opened 5 fs) (closed 5 fs e)))
         ∙ sym (unfold standing in shut 5 [] (omega arith) (λ _. p))
@@ -635,7 +622,7 @@ module _ (tag : List ℕ → ℕ) where
   slash-items (left l union ∷ fs) m = sym (append-nil (emitted fs ++ pathItems l))
   slash-items (left l intersect ∷ fs) m = sym (append-nil (emitted fs ++ pathItems l))
   slash-items (left l except ∷ fs) m = sym (append-nil (emitted fs ++ pathItems l))
-  slash-items (left l (slash one) ∷ fs) m = sym (append-assoc (emittedIn true fs) (runItems fs l) (starStep 11 ∷ binary 1 ∷ []))
+  slash-items (left l (slash one) ∷ fs) m = sym (append-assoc (emittedIn true fs) (runItems fs l) (nodeStep 11 ∷ binary 1 ∷ []))
   slash-items (left l (slash two) ∷ fs) m = no-yes refl m
   slash-items (lead one ∷ fs) m = refl
   slash-items (lead two ∷ fs) m = no-yes refl m
@@ -651,25 +638,17 @@ module _ (tag : List ℕ → ℕ) where
   abbrev pub Emits : State → ℕ → State → Type 0
   Emits (state fs f) k x = (a g : ℕ) → OnAxis (state fs f) a → Tagged (state fs f) g → written x ≡ written (state fs f) ++ wordItems (focusCode f) (codes fs) k a g
 
-  named-quiet : (e : Expr) (b : ℕ) → isNamed e ≡ true → cond (isNamed (longer e b) || isDot (longer e b)) [] (value (longer e b)) ≡ cond (isNamed e || isDot e) [] (value e)
-  named-quiet (star a) b n = no-yes refl n
-  named-quiet (named a name) b n = refl
-  named-quiet dot b n = no-yes refl n
-  named-quiet dots b n = no-yes refl n
-  named-quiet (variable k) b n = no-yes refl n
-  named-quiet (bracket e) b n = no-yes refl n
-  named-quiet (negate e) b n = no-yes refl n
-  named-quiet (is k) b n = no-yes refl n
-  named-quiet (filter e t) b n = no-yes refl n
-  named-quiet (rooted s e) b n = no-yes refl n
-  named-quiet (join o l r) b n = no-yes refl n
-
-  dot-turn : (fs : List Frame) (e : Expr) → isDot e ≡ true → (d : Expr) (l : List Item) → cond (isNamed d || isDot d) [] (value d) ≡ l
+  -- behind what was pending stands d, which makes l of it
+  pending-turn : (fs : List Frame) (e : Expr) → (isNamed e || isDot e) ≡ true → (d : Expr) (l : List Item) → cond (isNamed d || isDot d) [] (value d) ≡ l
       → written (state fs (have d)) ≡ written (state fs (have e)) ++ l
-  dot-turn fs e m d l p = rw (dot-is e m) (ap (λ (x : List Item). emitted fs ++ x) p ∙ ap (λ (x : List Item). x ++ l) (sym (append-nil (emitted fs))))
+  pending-turn fs e m d l p = rw m (ap (λ (x : List Item). emitted fs ++ x) p ∙ ap (λ (x : List Item). x ++ l) (sym (append-nil (emitted fs))))
+
+  -- the axis of a name
+  named-axis : (e : Expr) (a : ℕ) → isNamed e ≡ true → NamedBy (λ b name. a ≡ b) e → axisOf e ≡ a
+  named-axis e a n = by-name (λ (x : Expr). NamedBy (λ b name. a ≡ b) x → axisOf x ≡ a) (λ b name p. sym p) e n
 
   want-turns : (fs : List Frame) → Every Emits (state fs want)
-  unfolding next axes variables wordItems emittedIn isPath pathOf pathTerm postfix
+  unfolding next axes variables wordItems emittedIn isPath pathBy pathTerm postfix
   want-turns fs =
       each-from (Emits (state fs want)) 0 (axisChoice fs) _ 13 0 (λ v l. (λ _ a g p q. adds (axis-items v (focusCode want) (codes fs) a g l) quiet, tt))
       (each-from (Emits (state fs want)) 13 (variableChoice fs) _ 3 0 (λ v l. (λ _ a g p q. adds (variable-items v (focusCode want) (codes fs) a g l) refl, tt))
@@ -682,16 +661,16 @@ module _ (tag : List ℕ → ℕ) where
       adds p q = q ∙ ap (λ (l : List Item). emitted fs ++ l) (sym p)
 
   axis-turns : (fs : List Frame) (b : ℕ) → Every Emits (state fs (axis b))
-  unfolding wordItems isPath pathOf pathTerm postfix
-  axis-turns fs b = (λ i h a g p q. refl, λ a g p q. ap (λ (j : ℕ). emitted fs ++ (starStep j ∷ [])) (sym p))
+  unfolding wordItems isPath pathBy pathTerm postfix
+  axis-turns fs b = (λ i h a g p q. refl, λ a g p q. ap (λ (j : ℕ). emitted fs ++ (leaf 0 j 65535 ∷ [])) (sym p))
 
   have-turns : (fs : List Frame) (e : Expr) → Fine fs → fits 6 (takesTest fs) e ≡ true → Every Emits (state fs (have e))
-  unfolding variables wordItems emittedIn operand mayJoin joined isPath pathOf exprOf pathTerm exprTerm postfix
+  unfolding variables wordItems emittedIn operand mayJoin joined isPath pathBy exprBy pathTerm exprTerm postfix
   have-turns fs e f h = (
-    λ n b k a g p q. ap (λ (l : List Item). emitted fs ++ l) (named-quiet e b n) ∙ sym (append-nil (written (state fs (have e)))),
+    λ n b k a g p q. pending-turn fs e (or-left (isNamed e) (isDot e) n) (longer e b) [] refl,
     each-from (Emits (state fs (have e))) 20 (isChoice fs e) _ 3 0
-        (λ v l. (λ m a g p q. dot-turn fs e (yes-left (isDot e) (takesTest fs) m) (is v) (leaf 12 v 0 ∷ []) refl ∙ ap (λ (x : List Item). written (state fs (have e)) ++ x) (sym (is-items v (focusCode (have e)) (codes fs) a g l)), tt)) (
-          λ m a g p q. dot-turn fs e m dots (starStep 2 ∷ []) refl,
+        (λ v l. (λ m a g p q. pending-turn fs e (or-right (isNamed e) (isDot e) (yes-left (isDot e) (takesTest fs) m)) (is v) (leaf 12 v 0 ∷ []) refl ∙ ap (λ (x : List Item). written (state fs (have e)) ++ x) (sym (is-items v (focusCode (have e)) (codes fs) a g l)), tt)) (
+          λ m a g p q. pending-turn fs e (or-right (isNamed e) (isDot e) m) dots (nodeStep 2 ∷ []) refl,
           (
             λ m a g p q. ap (λ (l : List Item). emitted fs ++ l) (sym (value-path e m)) ∙ sym (full fs e f h a g p q),
             (
@@ -708,7 +687,10 @@ module _ (tag : List ℕ → ℕ) where
                         λ m a g p q. path-turn fs e f h a g p q 3 refl (omega arith) m,
                         (
                           λ m a g p q. path-turn fs e f h a g p q 3 refl (omega arith) m,
-                          (λ m a g p q. slash-turn fs e f h a g p q m, tt),
+                          (
+                            λ m a g p q. slash-turn fs e f h a g p q m,
+                            (λ m a g p q. node-turn (node-named e m) a p, tt),
+                          ),
                         ),
                       ),
                     ),
@@ -719,6 +701,9 @@ module _ (tag : List ℕ → ℕ) where
           ),
         ),
   )
+    where
+      node-turn : isNamed e ≡ true → (a : ℕ) → OnAxis (state fs (have e)) a → written (state fs (have (asNode e))) ≡ written (state fs (have e)) ++ (nodeStep a ∷ [])
+      node-turn n a p = pending-turn fs e (or-left (isNamed e) (isDot e) n) (asNode e) (nodeStep a ∷ []) (ap (λ (j : ℕ). nodeStep j ∷ []) (named-axis e a n p))
 
   -- every word adds the items of what it completes
   pub emits : (s : State) (c : List ℕ) → After s c → Every Emits s
@@ -733,7 +718,7 @@ module _ (tag : List ℕ → ℕ) where
   ends fs want c e r p a g on tagged = never e p
   ends fs (axis b) c e r p a g on tagged = never e p
   ends fs (have d) c e r p a g on tagged =
-      ap (λ (l : List Item). written (state fs (have d)) ++ (pending (focusCode (have d)) a g ++ l)) (sym (append-nil (closeItems 0 (codes fs) (ltb (focusCode (have d)) 5))))
+      ap (λ (l : List Item). written (state fs (have d)) ++ (pending (focusCode (have d)) a g ++ l)) (sym (append-nil (closeItems 0 (codes fs) (ltb 2 (focusCode (have d))))))
       ∙ sym (closed-value fs d (r .0) (r .1) a g on tagged 0 [] refl)
       ∙ go (opened 0 fs) (closed 0 fs d) (closing fs 0 6 d (r .0) (omega arith) (floor-most fs) (r .1) .fit) p
     where

@@ -12,7 +12,7 @@ use Rattle.machine.specs.Machine.{top, binds, pops, sort, stackOf}
 use Rattle.machine.proofs.Steps.{stack-some, Closed, closed-start, closed-on, closed-stop, closed-end}
 use Rattle.entries.specs.Postfix.{Item, Made, appendAll, Sound, Wrote}
 use Rattle.entries.proofs.Postfix.{append-all-append, wrote-none, wrote-on}
-use Rattle.emission.specs.Items.{asTest, starStep, gapItem, gapItems, closeItems, pending, wantItems, wordLevel, wantsTest, lastItems, closingItems, haveItems, wordItems, endItems}
+use Rattle.emission.specs.Items.{asTest, gapItem, gapItems, closeItems, pending, wantItems, wordLevel, wantsTest, lastItems, closingItems, haveItems, unnamedTag, wordItems, endItems}
 
 -- items by cases
 module _ (x y : List Item) (m n : Made) where
@@ -97,17 +97,17 @@ module _ (k : ℕ) (path : Bool) (m n o : Made) where
 -- the words that close gaps
 pub closing-items : (f : ℕ) (ks : List ℕ) (k c i : ℕ) (path t : Bool) (m n o r : Made)
     → Wrote (lastItems k i) o r → Wrote (asTest (t && path)) n o → t ≡ wantsTest k i → i ≡ top (drop c ks)
-    → Wrote (closeItems (wordLevel k) ks (ltb f 5)) m n → c ≡ pops (wordLevel k) ks → path ≡ sort (wordLevel k) ks (ltb f 5)
+    → Wrote (closeItems (wordLevel k) ks (ltb 2 f)) m n → c ≡ pops (wordLevel k) ks → path ≡ sort (wordLevel k) ks (ltb 2 f)
     → Wrote (closingItems f ks k) m r
 closing-items f ks k c i path t m n o r u v a b w p q =
     let inner = top (drop (pops (wordLevel k) ks) ks) in
     let e : i ≡ inner = b ∙ ap (λ (j : ℕ). top (drop j ks)) p in
-    let z : (t && path) ≡ (wantsTest k inner && sort (wordLevel k) ks (ltb f 5)) =
+    let z : (t && path) ≡ (wantsTest k inner && sort (wordLevel k) ks (ltb 2 f)) =
     ap (λ (x : Bool). x && path) (a ∙ ap (wantsTest k) e) ∙ ap (λ (x : Bool). wantsTest k inner && x) q in
     let v′ = subst (λ (x : Bool). Wrote (asTest x) n o) z v in
     let u′ = subst (λ (j : ℕ). Wrote (lastItems k j) o r) e u in
-    let tests = asTest (wantsTest k inner && sort (wordLevel k) ks (ltb f 5)) in
-    wrote-on (closeItems (wordLevel k) ks (ltb f 5)) (tests ++ lastItems k inner) m n r w (wrote-on tests (lastItems k inner) n o r v′ u′)
+    let tests = asTest (wantsTest k inner && sort (wordLevel k) ks (ltb 2 f)) in
+    wrote-on (closeItems (wordLevel k) ks (ltb 2 f)) (tests ++ lastItems k inner) m n r w (wrote-on tests (lastItems k inner) n o r v′ u′)
 
 pub from-25 : (k : ℕ) → 23 ≤ k → eqb k 23 ≡ false → eqb k 24 ≡ false → 25 ≤ k
 from-25 k h a b = omega (arith, eqb-false k 23 a, eqb-false k 24 b)
@@ -122,15 +122,17 @@ module _ (f : ℕ) (ks : List ℕ) (k axis tag : ℕ) (m n : Made) where
   unfolding wordItems
   word-have w h l = rw (le-ltb k 20 h, lt-ltb k 33 l) w
 
-  pub word-star : Wrote (starStep axis ∷ []) m n → 33 ≤ k → eqb k 33 ≡ false → Wrote (wordItems f ks k axis tag) m n
+  pub word-step : (t : ℕ) → Wrote (Item.leaf 0 axis t ∷ []) m n → t ≡ unnamedTag k → 33 ≤ k → eqb k 34 ≡ false → Wrote (wordItems f ks k axis tag) m n
   unfolding wordItems
-  word-star w h e = let l : 20 ≤ k = omega arith in rw (le-ltb k 20 l, le-ltb k 33 h, e) w
+  word-step t w q h e =
+      let l : 20 ≤ k = omega arith in
+      rw (le-ltb k 20 l, le-ltb k 33 h, e) (subst (λ (j : ℕ). Wrote (Item.leaf 0 axis j ∷ []) m n) q w)
 
-pub word-letter : (f : ℕ) (ks : List ℕ) (k axis tag : ℕ) (m : Made) → Sound m → 33 ≤ k → eqb k 33 ≡ true → Wrote (wordItems f ks k axis tag) m m
+pub word-letter : (f : ℕ) (ks : List ℕ) (k axis tag : ℕ) (m : Made) → Sound m → 33 ≤ k → eqb k 34 ≡ true → Wrote (wordItems f ks k axis tag) m m
 unfolding wordItems
 word-letter f ks k axis tag m w h e = let l : 20 ≤ k = omega arith in rw (le-ltb k 20 l, le-ltb k 33 h, e) (wrote-none m w)
 
 -- the end of the text
-pub end-items : (f : ℕ) (ks : List ℕ) (axis tag : ℕ) (m n o : Made) → Wrote (closeItems 0 ks (ltb f 5)) n o → Wrote (pending f axis tag) m n → Wrote (endItems f ks axis tag) m o
+pub end-items : (f : ℕ) (ks : List ℕ) (axis tag : ℕ) (m n o : Made) → Wrote (closeItems 0 ks (ltb 2 f)) n o → Wrote (pending f axis tag) m n → Wrote (endItems f ks axis tag) m o
 unfolding endItems
-end-items f ks axis tag m n o w v = wrote-on (pending f axis tag) (closeItems 0 ks (ltb f 5)) m n o v w
+end-items f ks axis tag m n o w v = wrote-on (pending f axis tag) (closeItems 0 ks (ltb 2 f)) m n o v w

@@ -12,9 +12,9 @@ use Rattle.entries.specs.Postfix.Item.{leaf, unary, binary}
 abbrev pub asTest : Bool → List Item
 asTest path = cond path (unary 8 ∷ []) []
 
--- self::*, parent::*, descendant-or-self::*
-abbrev pub starStep : ℕ → Item
-starStep a = leaf 0 a 65535
+-- a step with node()
+abbrev pub nodeStep : ℕ → Item
+nodeStep a = leaf 0 a 65534
 
 -- what a gap becomes when it closes: operators by their kinds, a leading slash 'from the root'
 abbrev pub gapItem : ℕ → Item
@@ -31,11 +31,11 @@ closeItems n (k ∷ ks) path = cond (binds n k) (gapItems k path ++ closeItems n
 
 -- what has been read, and is written when it can't go on: a name, with its axis and tag, or '.'
 abbrev pub pending : ℕ → ℕ → ℕ → List Item
-pending f axis tag = cond (eqb f 2) (leaf 0 axis tag ∷ []) (cond (eqb f 3) (starStep 0 ∷ []) [])
+pending f axis tag = cond (ltb 4 f) (leaf 0 axis tag ∷ []) (cond (eqb f 4) (nodeStep 0 ∷ []) [])
 
 -- a second slash: behind a step, and behind a leading slash
 abbrev pub slashItems : ℕ → List Item
-slashItems t = cond (eqb t 5) (starStep 11 ∷ binary 1 ∷ []) (cond (eqb t 7) (starStep 11 ∷ []) [])
+slashItems t = cond (eqb t 5) (nodeStep 11 ∷ binary 1 ∷ []) (cond (eqb t 7) (nodeStep 11 ∷ []) [])
 
 -- words where an expression is wanted, t the innermost gap
 abbrev pub wantItems : ℕ → ℕ → List Item
@@ -56,23 +56,27 @@ lastItems k inner = cond (eqb k 25) (binary 5 ∷ []) (cond (eqb k 26 && eqb inn
 -- the words 25 to 32: the gaps close that bind as tightly
 abbrev pub closingItems : ℕ → List ℕ → ℕ → List Item
 closingItems f ks k =
-    closeItems (wordLevel k) ks (ltb f 5)
-    ++ (asTest (wantsTest k (top (drop (pops (wordLevel k) ks) ks)) && sort (wordLevel k) ks (ltb f 5))
+    closeItems (wordLevel k) ks (ltb 2 f)
+    ++ (asTest (wantsTest k (top (drop (pops (wordLevel k) ks) ks)) && sort (wordLevel k) ks (ltb 2 f))
     ++ lastItems k (top (drop (pops (wordLevel k) ks) ks)))
 
--- words behind an expression
+-- words behind an expression, save '()'
 abbrev pub haveItems : ℕ → List ℕ → ℕ → ℕ → ℕ → List Item
 haveItems f ks k axis tag =
     cond (ltb k 23) (leaf 12 (k - 20) 0 ∷ [])
-    (cond (eqb k 23) (starStep 2 ∷ [])
+    (cond (eqb k 23) (nodeStep 2 ∷ [])
     (cond (eqb k 24) (pending f axis tag) (pending f axis tag ++ closingItems f ks k)))
+
+-- the tag of a step without a name: word 33 is the '()' of node(), 35 the star
+abbrev pub unnamedTag : ℕ → ℕ
+unnamedTag k = cond (eqb k 33) 65534 65535
 
 -- a turn: f the focus, ks the gaps, k the word; axis and tag are those of the name that has been read
 unfoldable pub wordItems : ℕ → List ℕ → ℕ → ℕ → ℕ → List Item
 wordItems f ks k axis tag =
     cond (ltb k 20) (wantItems (top ks) k)
-    (cond (ltb k 33) (haveItems f ks k axis tag) (cond (eqb k 33) [] (starStep axis ∷ [])))
+    (cond (ltb k 33) (haveItems f ks k axis tag) (cond (eqb k 34) [] (leaf 0 axis (unnamedTag k) ∷ [])))
 
 -- the end of the text
 unfoldable pub endItems : ℕ → List ℕ → ℕ → ℕ → List Item
-endItems f ks axis tag = pending f axis tag ++ closeItems 0 ks (ltb f 5)
+endItems f ks axis tag = pending f axis tag ++ closeItems 0 ks (ltb 2 f)

@@ -5,7 +5,8 @@ ghost use Prim.Native.Nat.{_≤_, _<_};
 ghost use lib.ListN.{length};
 ghost use Rattle.machine.specs.Machine.{pops, sort, stackOf};
 ghost use Rattle.entries.specs.Postfix.{made, Sound, Wrote};
-ghost use Rattle.emission.specs.Items.{asTest, starStep, gapItems, closeItems, pending, slashItems, wantItems, wantsTest, lastItems, closingItems, haveItems, wordItems, endItems};
+ghost use Rattle.entries.specs.Postfix.Item.{leaf};
+ghost use Rattle.emission.specs.Items.{asTest, gapItems, closeItems, pending, slashItems, wantItems, wantsTest, lastItems, closingItems, haveItems, unnamedTag, wordItems, endItems};
 
 // What closing gaps comes to: how many close, whether a path then stands in the innermost, and what has been made.
 pub struct Closed {
@@ -40,16 +41,22 @@ fn put_test(
     d
 }
 
-// A step to any node by an axis.
-fn put_star(axis: u16, table: &mut [u16], operands: &mut [u16], d: entries::Draft) -> entries::Draft
+// A step by its axis and tag.
+fn put_step(
+    axis: u16,
+    tag: u16,
+    table: &mut [u16],
+    operands: &mut [u16],
+    d: entries::Draft,
+) -> entries::Draft
     requires { ⌜ Sound (made d (now table) (now operands)) ⌝ }
     ensures { λ r.
         ⌜
-        Wrote (starStep axis ∷ []) (made d (now (table .entry)) (now (operands .entry)))
+        Wrote (leaf 0 axis tag ∷ []) (made d (now (table .entry)) (now (operands .entry)))
         (made r (now (table .exit)) (now (operands .exit)))
         ⌝ }
 {
-    entries::put_leaf(table, operands, d, 0, axis, 65535)
+    entries::put_leaf(table, operands, d, 0, axis, tag)
 }
 
 // A gap that closes.
@@ -137,13 +144,13 @@ fn put_pending(
         (made r (now (table .exit)) (now (operands .exit)))
         ⌝ }
 {
-    let name = f == 2;
+    let name = 4 < f;
     if name {
-        return entries::put_leaf(table, operands, d, 0, axis, tag);
+        return put_step(axis, tag, table, operands, d);
     }
-    let dot = f == 3;
+    let dot = f == 4;
     if dot {
-        return put_star(0, table, operands, d);
+        return put_step(0, 65534, table, operands, d);
     }
     d
 }
@@ -159,12 +166,12 @@ fn put_slash(t: u8, table: &mut [u16], operands: &mut [u16], d: entries::Draft) 
 {
     let after_step = t == 5;
     if after_step {
-        let next = put_star(11, table, operands, d);
+        let next = put_step(11, 65534, table, operands, d);
         return entries::put_binary(table, operands, next, 1);
     }
     let after_lead = t == 7;
     if after_lead {
-        return put_star(11, table, operands, d);
+        return put_step(11, 65534, table, operands, d);
     }
     d
 }
@@ -248,13 +255,13 @@ fn put_closing(
         ⌝ }
 {
     let level = LEVELS[k - 25];
-    let c = close_gaps(stack, depth, level, f < 5, table, operands, d);
+    let c = close_gaps(stack, depth, level, 2 < f, table, operands, d);
     let inner = machine::innermost(stack, depth, c.pops);
     let next = put_test(wants_test(k, inner) & c.path, table, operands, c.draft);
     put_last(k, inner, table, operands, next)
 }
 
-// Word k behind an expression.
+// Word k behind an expression, save '()'.
 fn put_have(
     stack: &[u8],
     depth: usize,
@@ -278,7 +285,7 @@ fn put_have(
     }
     let dots = k == 23;
     if dots {
-        return put_star(2, table, operands, d);
+        return put_step(2, 65534, table, operands, d);
     }
     let next = put_pending(f, axis, tag, table, operands, d);
     let test = k == 24;
@@ -286,6 +293,17 @@ fn put_have(
         return next;
     }
     put_closing(stack, depth, f, k, table, operands, next)
+}
+
+// The tag of a step without a name: node() ends with word 33, the star is 35.
+fn unnamed_tag(k: usize) -> u16
+    ensures { λ r. ⌜ r ≡ unnamedTag k ⌝ }
+{
+    let node = k == 33;
+    if node {
+        return 65534;
+    }
+    65535
 }
 
 // What a turn writes: f is the focus and k the word; axis and tag are those of the name that has been read.
@@ -300,7 +318,7 @@ pub fn write_word(
     operands: &mut [u16],
     d: entries::Draft,
 ) -> entries::Draft
-    requires { ⌜ (depth ≤ length (now stack)) × (k < 35) × Sound (made d (now table) (now operands)) ⌝ }
+    requires { ⌜ (depth ≤ length (now stack)) × (k < 36) × Sound (made d (now table) (now operands)) ⌝ }
     ensures { λ r.
         ⌜
         Wrote (wordItems f (stackOf (now (stack .entry)) depth) k axis tag) (made d (now (table .entry)) (now (operands .entry)))
@@ -314,11 +332,11 @@ pub fn write_word(
     if k < 33 {
         return put_have(stack, depth, f, k, axis, tag, table, operands, d);
     }
-    let letter = k == 33;
+    let letter = k == 34;
     if letter {
         return d;
     }
-    put_star(axis, table, operands, d)
+    put_step(axis, unnamed_tag(k), table, operands, d)
 }
 
 // What the end of the text writes.
@@ -340,6 +358,6 @@ pub fn write_end(
         ⌝ }
 {
     let next = put_pending(f, axis, tag, table, operands, d);
-    let c = close_gaps(stack, depth, 0, f < 5, table, operands, next);
+    let c = close_gaps(stack, depth, 0, 2 < f, table, operands, next);
     c.draft
 }

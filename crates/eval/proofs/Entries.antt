@@ -16,7 +16,7 @@ use Rattle.model.specs.Axes.{steps}
 use Rattle.model.specs.Syntax.{Path, NodeExpr}
 use Rattle.model.specs.Syntax.Path.{step, compose, filter, fromRoot}
 use Rattle.model.specs.Syntax.NodeExpr.{exists, negate, both, either, is}
-use Rattle.model.specs.Meaning.{pairs, holds}
+use Rattle.model.specs.Meaning.{pairsOver, holdsOver, pairs, holds}
 use Rattle.model.specs.QueryTable.{kind, left, right, tag, entry, entriesOf, pathAt, exprAt}
 use Rattle.model.specs.Checks.{leftPath, leftExpr, rightPath, rightExpr, namesVariable}
 use Rattle.model.specs.Results.{assigned, related}
@@ -84,7 +84,7 @@ module _ {t v q nodes : List ℕ} {e : ℕ} {f : Entry} (fe : f ≡ entry q e) (
   -- paths
 
   pub did-step : (b : Bool) (s o : List ℕ) → o ≡ tab 256 (image (sizeOf t) (turn b (steps (treeOf t) (f .left) (f .tag))) (memb s)) → f .kind ≡ 0 → o ≡ reached t q nodes e b s
-  unfolding pairs
+  unfolding pairsOver
   did-step b s o p h = p ∙ rw fe (as-path t q nodes e b s (step (left q e) (tag q e)) (at-step q e (rw fe at h)))
 
   is-compose : f .kind ≡ 1 → pathAt q e ≡ compose (pathAt q (f .left)) (pathAt q (f .right))
@@ -92,7 +92,7 @@ module _ {t v q nodes : List ℕ} {e : ℕ} {f : Entry} (fe : f ≡ entry q e) (
   is-compose h = rw fe (at-compose q e (rw fe at h) (path-left (rw h)) (path-right (rw h)))
 
   pub did-compose : (b : Bool) (i j : ℕ) (s m o : List ℕ) → o ≡ reached t q nodes j b m → m ≡ reached t q nodes i b s → j ≡ cond b (f .left) (f .right) → i ≡ cond b (f .right) (f .left) → f .kind ≡ 1 → o ≡ reached t q nodes e b s
-  unfolding reached related pairs
+  unfolding reached related pairsOver
   did-compose true i j s m o p a cj ci h =
       p ∙ rw (a, cj, ci) (image-compose (sizeOf t) (small ok) (λ x y. rel t q nodes (f .right) y x) (λ x y. rel t q nodes (f .left) y x) (memb s)
       ∙ image-cong (sizeOf t) (small ok) _ _ (memb s) (λ x y lx ly. any-cong (sizeOf t) _ _ (λ z l. and-comm (rel t q nodes (f .right) z x) (rel t q nodes (f .left) y z)))
@@ -106,12 +106,12 @@ module _ {t v q nodes : List ℕ} {e : ℕ} {f : Entry} (fe : f ≡ entry q e) (
   is-filter h = rw fe (at-filter q e (rw fe at h) (path-left (rw h)) (expr-right (rw h)))
 
   pub did-filter : (b : Bool) (s m n o : List ℕ) → o ≡ tab 256 (combination 1 m n) → m ≡ reached t q nodes (f .left) b s → n ≡ passed t q nodes (f .right) → b ≡ false → f .kind ≡ 5 → o ≡ reached t q nodes e b s
-  unfolding reached related passed passing pairs
+  unfolding reached related passed passing pairsOver
   did-filter b s m n o p a c z h =
       p ∙ rw (a, c, z) (image-keep (sizeOf t) (small ok) _ _ (memb s) ∙ as-path t q nodes e false s (filter (pathAt q (f .left)) (exprAt q (f .right))) (is-filter h))
 
   pub did-filter-back : (b : Bool) (s m n o : List ℕ) → o ≡ reached t q nodes (f .left) b m → m ≡ tab 256 (combination 1 s n) → n ≡ passed t q nodes (f .right) → b ≡ true → f .kind ≡ 5 → o ≡ reached t q nodes e b s
-  unfolding reached related passed passing pairs
+  unfolding reached related passed passing pairsOver
   did-filter-back b s m n o p a c z h =
       p ∙ rw (a, c, z) (image-kept (sizeOf t) (small ok) _ _ s ∙ as-path t q nodes e true s (filter (pathAt q (f .left)) (exprAt q (f .right))) (is-filter h))
 
@@ -119,7 +119,7 @@ module _ {t v q nodes : List ℕ} {e : ℕ} {f : Entry} (fe : f ≡ entry q e) (
 
 module _ {t v q nodes : List ℕ} {e : ℕ} (ok : Ready t v q nodes) (em : e < entriesOf q) where
   is-joined : (b : Bool) (x y : ℕ) → 2 ≤ kind q e → kind q e ≤ 4 → related t q nodes e b x y ≡ combine (kind q e - 2) (related t q nodes (left q e) b x y) (related t q nodes (right q e) b x y)
-  unfolding related pairs combine
+  unfolding related pairsOver combine
   is-joined b x y l h = turned b
     where
       left-lower : left q e < e
@@ -201,7 +201,7 @@ module _ {t v q nodes : List ℕ} {e : ℕ} {f : Entry} (fe : f ≡ entry q e) (
   variable-one o p h = ones-one 256 (assigned nodes (f .left)) o p (variable-small fe ok em h)
 
   pub did-variable : (o : List ℕ) → o ≡ tab 256 (only (assigned nodes (f .left))) → assigned nodes (f .left) < sizeOf t → f .kind ≡ 6 → o ≡ row t q nodes e false 0
-  unfolding row related pairs
+  unfolding row related pairsOver
   did-variable o p l h = p ∙ only-upto (sizeOf t) (small ok) (assigned nodes (f .left)) l ∙ rw (at-variable q e (rw fe at h), fe)
 
   is-root : f .kind ≡ 7 → pathAt q e ≡ fromRoot (pathAt q (f .left))
@@ -209,12 +209,12 @@ module _ {t v q nodes : List ℕ} {e : ℕ} {f : Entry} (fe : f ≡ entry q e) (
   is-root h = rw fe (at-root q e (rw fe at h) (path-left fe ok em (rw h)))
 
   pub did-root : (s o : List ℕ) → o ≡ reached t q nodes (f .left) false s → s ≡ tab 256 (only 0) → f .kind ≡ 7 → o ≡ row t q nodes e false 0
-  unfolding row reached related pairs
+  unfolding row reached related pairsOver
   did-root s o p a h = p ∙ rw (a, is-root h) (image-one (sizeOf t) (small ok) _ 0 (ok .linked .tree .sound .some-node))
 
   -- neither looks at the start node
   pub did-ending : (b : Bool) (s to o : List ℕ) → o ≡ tab 256 (image (sizeOf t) (turn b (ending to)) (memb s)) → to ≡ row t q nodes e false 0 → 6 ≤ f .kind → f .kind ≤ 7 → o ≡ reached t q nodes e b s
-  unfolding row reached related pairs
+  unfolding row reached related pairsOver
   did-ending b s to o p a l h =
       p ∙ rw a (image-turned (sizeOf t) (small ok) b _ (rel t q nodes e) (memb s) (λ x y lx ly. memb-upto (sizeOf t) (small ok) (rel t q nodes e 0) y ly ∙ anywhere x y (eq-or-lt-of-le l)))
     where
@@ -225,21 +225,21 @@ module _ {t v q nodes : List ℕ} {e : ℕ} {f : Entry} (fe : f ≡ entry q e) (
   -- node expressions
 
   pub did-exists : (m o : List ℕ) → o ≡ reached t q nodes (f .left) true m → m ≡ tab 256 (upto (sizeOf t) (always true)) → f .kind ≡ 8 → o ≡ passed t q nodes e
-  unfolding reached related leftPath holds
+  unfolding reached related leftPath holdsOver
   did-exists m o p a h = p ∙ rw (a, fe) (image-all (sizeOf t) (small ok) _ ∙ as-expr t q nodes e (exists (pathAt q (left q e))) (at-exists q e (rw fe at h) (path-left fe ok em (rw h))))
 
   pub did-negate : (m n o : List ℕ) → o ≡ tab 256 (combination 2 m n) → m ≡ tab 256 (upto (sizeOf t) (always true)) → n ≡ passed t q nodes (f .left) → f .kind ≡ 9 → o ≡ passed t q nodes e
-  unfolding passed passing leftExpr holds combine
+  unfolding passed passing leftExpr holdsOver combine
   did-negate m n o p a c h = p ∙ rw (a, c, fe) (combine-upto (sizeOf t) (small ok) 2 (always true) _ ∙ as-expr t q nodes e (negate (exprAt q (left q e))) (at-negate q e (rw fe at h) (expr-left fe ok em (rw h))))
 
   pub did-both : (m n o : List ℕ) → o ≡ tab 256 (combination 1 m n) → m ≡ passed t q nodes (f .left) → n ≡ passed t q nodes (f .right) → f .kind ≡ 10 → o ≡ passed t q nodes e
-  unfolding passed passing leftExpr rightExpr holds combine
+  unfolding passed passing leftExpr rightExpr holdsOver combine
   did-both m n o p a c h = p ∙ rw (a, c, fe) (combine-upto (sizeOf t) (small ok) 1 _ _ ∙ as-expr t q nodes e (both (exprAt q (left q e)) (exprAt q (right q e))) (at-both q e (rw fe at h) (expr-left fe ok em (rw h)) (expr-right fe ok em (rw h))))
 
   pub did-either : (m n o : List ℕ) → o ≡ tab 256 (combination 0 m n) → m ≡ passed t q nodes (f .left) → n ≡ passed t q nodes (f .right) → f .kind ≡ 11 → o ≡ passed t q nodes e
-  unfolding passed passing leftExpr rightExpr holds combine
+  unfolding passed passing leftExpr rightExpr holdsOver combine
   did-either m n o p a c h = p ∙ rw (a, c, fe) (combine-upto (sizeOf t) (small ok) 0 _ _ ∙ as-expr t q nodes e (either (exprAt q (left q e)) (exprAt q (right q e))) (at-either q e (rw fe at h) (expr-left fe ok em (rw h)) (expr-right fe ok em (rw h))))
 
   pub did-is : (o : List ℕ) → o ≡ tab 256 (only (assigned nodes (f .left))) → assigned nodes (f .left) < sizeOf t → f .kind ≡ 12 → o ≡ passed t q nodes e
-  unfolding holds
+  unfolding holdsOver
   did-is o p l h = p ∙ only-upto (sizeOf t) (small ok) (assigned nodes (f .left)) l ∙ rw fe (as-expr t q nodes e (is (left q e)) (at-is q e (rw fe at h)))

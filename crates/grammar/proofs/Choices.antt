@@ -1,4 +1,4 @@
--- The choices of a state by their numbers: 0 to 19 where an expression is wanted, 20 to 32 behind one, 33 for a byte of a name and 34
+-- The choices of a state by their numbers: 0 to 19 where an expression is wanted, 20 to 33 behind one, 34 for a byte of a name and 35
 -- for the star behind an axis. What holds of every choice holds of the one that is taken.
 use Prim.Native.Nat.{ℕ, suc, _+_}
 use native.Mathlib.Omega.{arith}
@@ -8,7 +8,8 @@ use mathlib.Core.Bool.{true}
 use mathlib.Core.List.{List, [], _∷_}
 use lib.ListN.{length}
 use Rattle.grammar.specs.Grammar.{elem, nameBytes}
-use Rattle.grammar.specs.Grammar.Expr.{star, named}
+use Rattle.grammar.specs.Grammar.Wildcard.{star}
+use Rattle.grammar.specs.Grammar.Expr.{wildcard, named}
 use Rattle.grammar.specs.Online.{Choice}
 use Rattle.grammar.specs.Online.Choice.{choice}
 use Rattle.grammar.specs.Automaton.{State, isNamed, longer, behind, next, each}
@@ -49,17 +50,17 @@ each-indexed P f (j ∷ js) l k h r =
 abbrev pub Taken : State → ℕ → State → Type 0
 Taken (state fs want) k x = Nth (next (state fs want)) k x
 Taken (state fs (axis a)) k x =
-    ((k ≡ 33) × (b : ℕ) × (elem b nameBytes ≡ true) × (x ≡ state fs (have (named a (b ∷ []))))) ⊎ ((k ≡ 34) × (x ≡ state fs (have (star a))))
+    ((k ≡ 34) × (b : ℕ) × (elem b nameBytes ≡ true) × (x ≡ state fs (have (named a (b ∷ []))))) ⊎ ((k ≡ 35) × (x ≡ state fs (have (wildcard a star))))
 Taken (state fs (have e)) k x =
-    ((k ≡ 33) × (isNamed e ≡ true) × (b : ℕ) × (elem b nameBytes ≡ true) × (x ≡ state fs (have (longer e b)))) ⊎ ((i : ℕ) × (k ≡ 20 + i) × Nth (behind fs e) i x)
+    ((k ≡ 34) × (isNamed e ≡ true) × (b : ℕ) × (elem b nameBytes ≡ true) × (x ≡ state fs (have (longer e b)))) ⊎ ((i : ℕ) × (k ≡ 20 + i) × Nth (behind fs e) i x)
 
 -- P holds of every word of the state
 abbrev pub Every : (State → ℕ → State → Type 0) → State → Type 0
 Every P (state fs want) = Indexed (P (state fs want)) 0 (next (state fs want))
 Every P (state fs (axis a)) =
-    ((b : ℕ) → elem b nameBytes ≡ true → P (state fs (axis a)) 33 (state fs (have (named a (b ∷ []))))) × P (state fs (axis a)) 34 (state fs (have (star a)))
+    ((b : ℕ) → elem b nameBytes ≡ true → P (state fs (axis a)) 34 (state fs (have (named a (b ∷ []))))) × P (state fs (axis a)) 35 (state fs (have (wildcard a star)))
 Every P (state fs (have e)) =
-    (isNamed e ≡ true → (b : ℕ) → elem b nameBytes ≡ true → P (state fs (have e)) 33 (state fs (have (longer e b))))
+    (isNamed e ≡ true → (b : ℕ) → elem b nameBytes ≡ true → P (state fs (have e)) 34 (state fs (have (longer e b))))
     × Indexed (P (state fs (have e))) 20 (behind fs e)
 
 pub every-taken : (P : State → ℕ → State → Type 0) (s : State) (k : ℕ) (x : State) → Taken s k x → Every P s → P s k x
@@ -68,7 +69,7 @@ every-taken P (state fs want) k x t h =
 every-taken P (state fs (axis a)) k x t h =
     ⊎-elim
     (λ u. subst (λ (y : State). P (state fs (axis a)) k y) (sym (u .3)) (subst (λ (j : ℕ). P (state fs (axis a)) j (state fs (have (named a (u .1 ∷ []))))) (sym (u .0)) (h .0 (u .1) (u .2))))
-    (λ u. subst (λ (y : State). P (state fs (axis a)) k y) (sym (u .1)) (subst (λ (j : ℕ). P (state fs (axis a)) j (state fs (have (star a)))) (sym (u .0)) (h .1)))
+    (λ u. subst (λ (y : State). P (state fs (axis a)) k y) (sym (u .1)) (subst (λ (j : ℕ). P (state fs (axis a)) j (state fs (have (wildcard a star)))) (sym (u .0)) (h .1)))
     t
 every-taken P (state fs (have e)) k x t h =
     ⊎-elim

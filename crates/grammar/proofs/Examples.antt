@@ -7,13 +7,15 @@ use lib.ListN.{length}
 use Rattle.model.specs.Syntax.{Path, NodeExpr}
 use Rattle.model.specs.Syntax.Path.{step, compose, fromRoot}
 use Rattle.model.specs.Syntax.NodeExpr.{exists, either, both}
+use Rattle.model.specs.Lists.{equal}
 use Rattle.grammar.specs.Grammar.{Expr, ascii, elem, axes, axisWord, variables, nameBytes, allName, isName, print, fits}
 use Rattle.grammar.specs.Grammar.Slash.{one, two}
+use Rattle.grammar.specs.Grammar.Wildcard.{star, node}
 use Rattle.grammar.specs.Grammar.Op.{or, and, union, intersect, except, slash}
-use Rattle.grammar.specs.Grammar.Expr.{star, named, dot, dots, variable, bracket, negate, is, filter, rooted, join}
+use Rattle.grammar.specs.Grammar.Expr.{wildcard, named, dot, dots, variable, bracket, negate, is, filter, rooted, join}
 use Rattle.grammar.specs.Online.{reach, feed, taken, settle, advance}
 use Rattle.grammar.specs.Automaton.{next, each, mayJoin, joined, opened, closed, isPath, stopsAt}
-use Rattle.grammar.specs.Typed.{pathOf, below, exprOf}
+use Rattle.grammar.specs.Typed.{belowBy, exprBy, pathBy, pathOf, below, exprOf}
 
 -- a text, its reading, and what that stands for where the tag of a name is its length
 pub record Example : Type 0 where
@@ -21,32 +23,40 @@ pub record Example : Type 0 where
   pub reading : Expr
   pub path : Path
 
--- grouping, precedence, brackets, and what '//' stands for
+-- grouping, precedence, brackets, what '//' stands for, and 'node()' beside the name 'node'
 pub examples : List Example
 examples =
     -- a leading slash takes the whole run, and '//' has a step between its slashes
     record {
       text = ascii "//child::a/..//$2";
       reading = rooted two (join (slash two) (join (slash one) (named 1 (ascii "a")) dots) (variable 2));
-      path = fromRoot (compose (compose (compose (compose (step 11 65535) (step 1 1)) (step 2 65535)) (step 11 65535)) (Path.variable 2));
+      path = fromRoot (compose (compose (compose (compose (step 11 65534) (step 1 1)) (step 2 65534)) (step 11 65534)) (Path.variable 2));
     }
     -- equals group leftwards, slashes bind tighter than operators for sets
     ∷ record {
       text = ascii "self::* except . intersect child::ab//.. union $0";
-      reading = join union (join intersect (join except (star 0) dot) (join (slash two) (named 1 (ascii "ab")) dots)) (variable 0);
-      path = Path.union (Path.intersect (Path.except (step 0 65535) (step 0 65535)) (compose (compose (step 1 2) (step 11 65535)) (step 2 65535))) (Path.variable 0);
+      reading = join union (join intersect (join except (wildcard 0 star) dot) (join (slash two) (named 1 (ascii "ab")) dots)) (variable 0);
+      path = Path.union (Path.intersect (Path.except (step 0 65535) (step 0 65534)) (compose (compose (step 1 2) (step 11 65534)) (step 2 65534))) (Path.variable 0);
     }
     -- 'and' binds tighter than 'or', also behind it
     ∷ record {
       text = ascii "right::*[. is $0 or not(..) and .][$1]";
-      reading = filter (filter (star 3) (join or (is 0) (join and (negate dots) dot))) (variable 1);
-      path = Path.filter (Path.filter (step 3 65535) (either (NodeExpr.is 0) (both (NodeExpr.negate (exists (step 2 65535))) (exists (step 0 65535))))) (exists (Path.variable 1));
+      reading = filter (filter (wildcard 3 star) (join or (is 0) (join and (negate dots) dot))) (variable 1);
+      path = Path.filter (Path.filter (step 3 65535) (either (NodeExpr.is 0) (both (NodeExpr.negate (exists (step 2 65534))) (exists (step 0 65534))))) (exists (Path.variable 1));
     }
     -- a bracket that holds a path is a path, also in a test; another one is a test
     ∷ record {
       text = ascii ".[(. union ..)/$0 and (. or /.)]";
       reading = filter dot (join and (join (slash one) (bracket (join union dot dots)) (variable 0)) (bracket (join or dot (rooted one dot))));
-      path = Path.filter (step 0 65535) (both (exists (compose (Path.union (step 0 65535) (step 2 65535)) (Path.variable 0))) (either (exists (step 0 65535)) (exists (fromRoot (step 0 65535)))));
+      path = Path.filter (step 0 65534) (both (exists (compose (Path.union (step 0 65534) (step 2 65534)) (Path.variable 0))) (either (exists (step 0 65534)) (exists (fromRoot (step 0 65534)))));
+    }
+    -- 'node()' is a test, 'node' a name, and a longer name may begin so
+    ∷ record { text = ascii "child::node()"; reading = wildcard 1 node; path = step 1 65534 }
+    ∷ record { text = ascii "child::node"; reading = named 1 (ascii "node"); path = step 1 4 }
+    ∷ record {
+      text = ascii "child::node()/child::nodes";
+      reading = join (slash one) (wildcard 1 node) (named 1 (ascii "nodes"));
+      path = compose (step 1 65534) (step 1 5);
     }
     ∷ []
 
@@ -54,7 +64,7 @@ examples =
 pub examples-hold :
     map {B = Bool × List ℕ × Path} (λ (x : Example). (fits 0 false (x .reading), print (x .reading), pathOf (x .reading) length)) examples
     ≡ map {B = Bool × List ℕ × Path} (λ (x : Example). (true, x .text, x .path)) examples
-unfolding examples fits elem axes axisWord variables isName nameBytes allName print pathOf below exprOf
+unfolding examples fits elem axes axisWord variables isName nameBytes allName print pathBy belowBy exprBy
 examples-hold = refl
 
 -- a text, and the place of its refusal
@@ -62,7 +72,7 @@ pub record Refusal : Type 0 where
   pub text : List ℕ
   pub place : ℕ
 
--- within a word, behind a test, behind two slashes, and at the end
+-- within a word, behind a test, behind two slashes, at the end, and beside 'node()'
 pub refusals : List Refusal
 refusals =
     -- of the words, only 'descendant-or-self' goes on from 'descendant-'
@@ -73,9 +83,13 @@ refusals =
     ∷ record { text = ascii ".///."; place = 3 }
     -- it is not finished
     ∷ record { text = ascii "child::*[not(.)"; place = 15 }
+    -- '()' behind the name 'node' alone, and with nothing between
+    ∷ record { text = ascii "child::nodes()"; place = 12 }
+    ∷ record { text = ascii "child::node("; place = 12 }
+    ∷ record { text = ascii "child::node(x"; place = 12 }
     ∷ []
 
 -- each place is where the reading stops
 pub refusals-hold : map (λ (x : Refusal). stopsAt (x .text)) refusals ≡ map (λ (x : Refusal). x .place) refusals
-unfolding refusals stopsAt reach feed taken settle advance next each axes axisWord variables nameBytes mayJoin joined opened closed isPath
+unfolding refusals stopsAt reach feed taken settle advance next each axes axisWord variables nameBytes mayJoin joined opened closed isPath equal
 refusals-hold = refl

@@ -8,3 +8,4 @@ pub mod Examples
 pub mod Passing
 pub mod Names
 pub mod Typed
+pub mod Unchanged

@@ -4,21 +4,21 @@ use native.Mathlib.Omega.{arith}
 use mathlib.Core.Path.{_≡_, refl, sym, ap, _∙_, subst}
 use mathlib.Core.Bool.{Bool, true, false, cond}
 use mathlib.Core.List.{List, [], _∷_, _++_, append-assoc, append-nil}
-use lib.Dec.{leb, eqb}
+use lib.Dec.{leb, ltb}
 use lib.ListN.{length, drop, length-append}
 use lib.Seq.{drop-at}
 use Rattle.model.proofs.Booleans.{no-yes, yes-left}
 use Rattle.grammar.specs.Grammar.{Expr, Op, ascii, axes, axisWord, variables, level, slashWord, word, print}
 use Rattle.grammar.specs.Grammar.Slash.{one}
 use Rattle.grammar.specs.Grammar.Op.{or, and, union, intersect, except, slash}
-use Rattle.grammar.specs.Grammar.Expr.{star, named, dot, dots, variable, bracket, negate, is, filter, rooted, join}
+use Rattle.grammar.specs.Grammar.Expr.{wildcard, named, dot, dots, variable, bracket, negate, is, filter, rooted, join}
 use Rattle.grammar.specs.Automaton.{Frame, State, takesTest, opened, closed, slashed, mayFilter, filtered, mayParen, parenthesised, isDot, joined, isNamed, longer, axisChoice, variableChoice, isChoice, next, start, whole, outcomeAt}
 use Rattle.grammar.specs.Automaton.Frame.{left, lead, paren, negation, test}
 use Rattle.grammar.specs.Automaton.Focus.{want, axis, have}
 use Rattle.grammar.specs.Automaton.State.{state}
 use Rattle.grammar.specs.Automaton.Outcome.{accepted}
 use Rattle.grammar.specs.Typed.{TypedName, namesIn}
-use Rattle.grammar.proofs.Soundness.{shown, inFocus, After, dot-is}
+use Rattle.grammar.proofs.Soundness.{shown, inFocus, After, dot-is, by-name, node-named}
 use Rattle.grammar.proofs.Choices.{Every, each-indexed}
 
 -- the names in what stands before the gaps
@@ -59,7 +59,7 @@ isAxisFocus (state fs (have e)) = false
 
 -- the name that is being read, if one is, begins at place p, where the expression in the gap begins at q
 abbrev BegunIn : ℕ → Expr → ℕ → Type 0
-BegunIn q (star a) p = Unit {0}
+BegunIn q (wildcard a w) p = Unit {0}
 BegunIn q (named a name) p = p ≡ q + length (axisWord a)
 BegunIn q dot p = Unit {0}
 BegunIn q dots p = Unit {0}
@@ -147,33 +147,25 @@ names-slashed (paren ∷ fs) = refl
 names-slashed (negation ∷ fs) = refl
 names-slashed (test e ∷ fs) = refl
 
--- the word number k leads from s to x: the name that was being read is read to its end, but by a byte of a name
+-- the word number k leads from s to x: the name that was being read is read to its end by the words below 33; '()' makes it a name no
+-- longer, and with a byte more it goes on
 abbrev pub NamesOn : State → ℕ → State → Type 0
-NamesOn s k x = finished x ≡ finished s ++ cond (eqb k 33) [] (pendingName s)
+NamesOn s k x = finished x ≡ finished s ++ cond (ltb k 33) (pendingName s) []
 
 -- no name was being read
 none-pending : (s x : State) (k : ℕ) → pendingName s ≡ [] → finished x ≡ finished s → NamesOn s k x
-none-pending s x k p q = q ∙ go (eqb k 33)
+none-pending s x k p q = q ∙ go (ltb k 33)
   where
-    go : (b : Bool) → finished s ≡ finished s ++ cond b [] (pendingName s)
-    go true = sym (append-nil (finished s))
-    go false = rw p (sym (append-nil (finished s)))
+    go : (b : Bool) → finished s ≡ finished s ++ cond b (pendingName s) []
+    go true = rw p (sym (append-nil (finished s)))
+    go false = sym (append-nil (finished s))
 
-names-longer : (fs : List Frame) (e : Expr) (b : ℕ) → isNamed e ≡ true → NamesOn (state fs (have e)) 33 (state fs (have (longer e b)))
+-- what stands last is a name, and is none of those read to their end
+name-last : (fs : List Frame) (e : Expr) → isNamed e ≡ true → gapNames fs ++ [] ≡ finished (state fs (have e)) ++ []
 unfolding finished
-names-longer fs (star a) b h = no-yes refl h
-names-longer fs (named a name) b h = sym (append-nil (gapNames fs ++ []))
-names-longer fs dot b h = no-yes refl h
-names-longer fs dots b h = no-yes refl h
-names-longer fs (variable k) b h = no-yes refl h
-names-longer fs (bracket e) b h = no-yes refl h
-names-longer fs (negate e) b h = no-yes refl h
-names-longer fs (is k) b h = no-yes refl h
-names-longer fs (filter e t) b h = no-yes refl h
-names-longer fs (rooted s e) b h = no-yes refl h
-names-longer fs (join o l r) b h = no-yes refl h
+name-last fs e h = rw h (sym (append-nil (gapNames fs ++ [])))
 
--- every word but a byte of a name ends the name that is being read
+-- every word below 33 ends the name that is being read
 pub names-on : (s : State) → Every NamesOn s
 unfolding finished pendingName namesIn gapNames next joined axes variables
 names-on (state fs want) =
@@ -196,7 +188,7 @@ names-on (state fs want) =
     s = state fs want
 names-on (state fs (axis a)) = (λ b h. refl, refl)
 names-on (state fs (have e)) = (
-  λ h b k. names-longer fs e b h,
+  λ h b k. name-last fs e h,
   each-indexed (NamesOn s) (isChoice fs e) variables _ 20 (λ i k. (λ n. behind-dot (is k) i refl refl (yes-left (isDot e) (takesTest fs) n), tt)) (
     λ n. behind-dot dots 23 refl refl n,
     (
@@ -217,7 +209,10 @@ names-on (state fs (have e)) = (
                     λ _. joins except,
                     (
                       λ _. joins (slash one),
-                      tt,
+                      (
+                        λ h. name-last fs e (node-named e h),
+                        tt,
+                      ),
                     ),
                   ),
                 ),
@@ -263,19 +258,6 @@ names-end (state fs (have d)) e h = go (opened 0 fs) (closed 0 fs d) h (names-cl
 abbrev pub BegunOn : List ℕ → State → ℕ → State → Type 0
 BegunOn c s k x = (p : ℕ) → Begun s p → Begun x (cond (isAxisFocus s) (length c) p)
 
-begun-longer : (q : ℕ) (e : Expr) (b p : ℕ) → isNamed e ≡ true → BegunIn q e p → BegunIn q (longer e b) p
-begun-longer q (star a) b p h g = no-yes refl h
-begun-longer q (named a name) b p h g = g
-begun-longer q dot b p h g = no-yes refl h
-begun-longer q dots b p h g = no-yes refl h
-begun-longer q (variable k) b p h g = no-yes refl h
-begun-longer q (bracket e) b p h g = no-yes refl h
-begun-longer q (negate e) b p h g = no-yes refl h
-begun-longer q (is k) b p h g = no-yes refl h
-begun-longer q (filter e t) b p h g = no-yes refl h
-begun-longer q (rooted s e) b p h g = no-yes refl h
-begun-longer q (join o l r) b p h g = no-yes refl h
-
 begun-filtered : (gs : List Frame) (d : Expr) (p : ℕ) → mayFilter gs ≡ true → Begun (filtered gs d) p
 begun-filtered [] d p m = no-yes refl m
 begun-filtered (left l o ∷ fs) d p m = no-yes refl m
@@ -311,7 +293,7 @@ begun-on (state fs want) c w =
     ))
 begun-on (state fs (axis a)) c w = (λ b h p g. ap length (sym (w .2)) ∙ length-append (shown fs) (axisWord a), λ p g. tt)
 begun-on (state fs (have e)) c w = (
-  λ h b k p g. begun-longer (length (shown fs)) e b p h g,
+  λ h b k p. by-name (λ (x : Expr). BegunIn (length (shown fs)) x p → BegunIn (length (shown fs)) (longer x b) p) (λ a name g. g) e h,
   each-indexed (BegunOn c (state fs (have e))) (isChoice fs e) variables _ 20 (λ i k. (λ _ p g. tt, tt)) (
     λ _ p g. tt,
     (
@@ -332,7 +314,10 @@ begun-on (state fs (have e)) c w = (
                     λ _ p g. tt,
                     (
                       λ _ p g. tt,
-                      tt,
+                      (
+                        λ _ p g. tt,
+                        tt,
+                      ),
                     ),
                   ),
                 ),
@@ -351,7 +336,7 @@ Ending s c p = (pendingName s ≡ record { place = p; name = drop p c } ∷ []) 
 
 ending-in : (fs : List Frame) (e : Expr) (c : List ℕ) (p : ℕ) → shown fs ++ print e ≡ c → BegunIn (length (shown fs)) e p → isNamed e ≡ true → Ending (state fs (have e)) c p
 unfolding pendingName namesIn print
-ending-in fs (star a) c p w g h = no-yes refl h
+ending-in fs (wildcard a v) c p w g h = no-yes refl h
 ending-in fs (named a name) c p w g h =
     subst (λ (d : List ℕ). Ending (state fs (have (named a name))) d p) w
     (subst (λ (q : ℕ). Ending (state fs (have (named a name))) (shown fs ++ (axisWord a ++ name)) q) (sym g) (

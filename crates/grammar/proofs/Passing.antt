@@ -3,8 +3,7 @@ use Prim.Native.Nat.{ℕ, suc, _+_, max, _≤_, _<_}
 use native.Mathlib.Omega.{arith}
 use mathlib.Core.Path.{_≡_, sym, _∙_}
 use mathlib.Core.Bool.{Bool, true, false, not, _&&_, _||_}
-use mathlib.Core.List.{List, [], _∷_, _++_}
-use lib.ListN.{length}
+use mathlib.Core.List.{List}
 use lib.Dec.{leb, ltb}
 use borrow.Author.Tests.{ltb-true}
 use Rattle.model.specs.Syntax.{Path, NodeExpr}
@@ -13,11 +12,11 @@ use Rattle.model.specs.Checks.{namesVariable, queryChecks}
 use Rattle.model.specs.Encoding.{pathTerm, exprTerm, size, tableOf, columns, columnsOf}
 use Rattle.model.proofs.Booleans.{yes-left, yes-right}
 use Rattle.model.proofs.Made.{ProperSteps, ProperStepsIn, made-passes}
-use Rattle.grammar.specs.Grammar.{Expr, Op, Slash, elem, from, axes, variables, slashWord, word, print, level, logical, isName, fits}
+use Rattle.grammar.specs.Grammar.{Expr, Op, Slash, elem, from, axes, variables, level, logical, isName, fits}
 use Rattle.grammar.specs.Grammar.Slash.{one, two}
 use Rattle.grammar.specs.Grammar.Op.{or, and, union, intersect, except, slash}
-use Rattle.grammar.specs.Grammar.Expr.{star, named, dot, dots, variable, bracket, negate, is, filter, rooted, join}
-use Rattle.grammar.specs.Typed.{anywhere, pathOf, below, exprOf, TypedName, namesIn}
+use Rattle.grammar.specs.Grammar.Expr.{wildcard, named, dot, dots, variable, bracket, negate, is, filter, rooted, join}
+use Rattle.grammar.specs.Typed.{belowBy, exprBy, pathBy, wildcardTag, anywhere, pathOf, below, exprOf}
 use Rattle.grammar.proofs.NameBytes.{elem-from}
 
 from-below : (x n : ℕ) → elem x (from 0 n) ≡ true → x < n
@@ -47,15 +46,12 @@ compose-fine : (p q : Path) → Fine p → Fine q → Fine (Path.compose p q)
 unfolding ProperSteps pathTerm columns
 compose-fine p q u v = pair (columns (pathTerm p)) (columns (pathTerm q)) u v
 
-step-fine : (a name : ℕ) → a < 13 → (name ≡ 65534 → ⊥) → Fine (Path.step a name)
+step-fine : (a name : ℕ) → a < 13 → Fine (Path.step a name)
 unfolding ProperSteps pathTerm columns namesVariable
-step-fine a name l h = ((l, h), omega arith)
-
-star-fine : (a : ℕ) → a < 13 → Fine (Path.step a 65535)
-star-fine a l = step-fine a 65535 l (λ h. omega arith)
+step-fine a name l = (l, omega arith)
 
 anywhere-fine : Fine anywhere
-anywhere-fine = star-fine 11 (omega arith)
+anywhere-fine = step-fine 11 65534 (omega arith)
 
 variable-fine : (k : ℕ) → k < 3 → Fine (Path.variable k)
 unfolding ProperSteps pathTerm columns namesVariable
@@ -64,21 +60,6 @@ variable-fine k h = (tt, h)
 -- what stands where an expression is no path
 none-fine : Fine (Path.variable 0)
 none-fine = variable-fine 0 (omega arith)
-
--- each of these names has a tag other than 65534
-unfoldable pub Tagged : (List ℕ → ℕ) → List TypedName → Type 0
-Tagged tag [] = Unit {0}
-Tagged tag (x ∷ xs) = (tag (x .name) ≡ 65534 → ⊥) × Tagged tag xs
-
-pub tagged-all : (tag : List ℕ → ℕ) → ((name : List ℕ) → tag name ≡ 65534 → ⊥) → (xs : List TypedName) → Tagged tag xs
-unfolding Tagged
-tagged-all tag h [] = tt
-tagged-all tag h (x ∷ xs) = (h (x .name), tagged-all tag h xs)
-
-tagged-parts : (tag : List ℕ → ℕ) (xs ys : List TypedName) → Tagged tag (xs ++ ys) → Tagged tag xs × Tagged tag ys
-unfolding Tagged
-tagged-parts tag [] ys h = (tt, h)
-tagged-parts tag (x ∷ xs) ys h = let w = tagged-parts tag xs ys (h .1) in ((h .0, w .0), w .1)
 
 module _ (tag : List ℕ → ℕ) where
   -- whichever of the three an expression is taken for
@@ -91,7 +72,7 @@ module _ (tag : List ℕ → ℕ) where
   alone p h = (h, compose-fine anywhere p anywhere-fine h, h)
 
   operator-fine : (o : Op) (l r : Expr) → All l → All r → All (join o l r)
-  unfolding pathOf below exprOf ProperSteps ProperStepsIn pathTerm exprTerm columns
+  unfolding pathBy belowBy exprBy ProperSteps ProperStepsIn pathTerm exprTerm columns
   operator-fine or l r u v = (none-fine, none-fine, pair (columns (exprTerm (exprOf l tag))) (columns (exprTerm (exprOf r tag))) (u .2) (v .2))
   operator-fine and l r u v = (none-fine, none-fine, pair (columns (exprTerm (exprOf l tag))) (columns (exprTerm (exprOf r tag))) (u .2) (v .2))
   operator-fine union l r u v = let w = compose-fine (pathOf l tag) (pathOf r tag) (u .0) (v .0) in (w, none-fine, w)
@@ -103,42 +84,38 @@ module _ (tag : List ℕ → ℕ) where
       (w, compose-fine (Path.compose (below l tag) anywhere) (pathOf r tag) (compose-fine (below l tag) anywhere (u .1) anywhere-fine) (v .0), w)
 
   root-fine : (s : Slash) (e : Expr) → All e → All (rooted s e)
-  unfolding pathOf below exprOf ProperSteps ProperStepsIn pathTerm exprTerm columns
+  unfolding pathBy belowBy exprBy ProperSteps ProperStepsIn pathTerm exprTerm columns
   root-fine one e u = (u .0, none-fine, u .0)
   root-fine two e u = (u .1, none-fine, u .1)
 
-  all-fine : (n : ℕ) (b : Bool) (e : Expr) (p : ℕ) → fits n b e ≡ true → Tagged tag (namesIn p e) → All e
-  unfolding fits namesIn Tagged pathOf below exprOf ProperSteps ProperStepsIn pathTerm exprTerm columns namesVariable
-  all-fine n b (star a) p h g = alone (Path.step a 65535) (star-fine a (axis-below a h))
-  all-fine n b (named a name) p h g = alone (Path.step a (tag name)) (step-fine a (tag name) (axis-below a (yes-left (elem a axes) (isName name) h)) (g .0))
-  all-fine n b dot p h g = alone (Path.step 0 65535) (star-fine 0 (omega arith))
-  all-fine n b dots p h g = alone (Path.step 2 65535) (star-fine 2 (omega arith))
-  all-fine n b (variable k) p h g = alone (Path.variable k) (variable-fine k (variable-below k h))
-  all-fine n b (bracket e) p h g = let u = all-fine 0 b e (p + 1) h g in (u .0, compose-fine anywhere (pathOf e tag) anywhere-fine (u .0), u .2)
-  all-fine n b (negate e) p h g = (none-fine, none-fine, all-fine 0 true e (p + 4) (yes-right b (fits 0 true e) h) g .2)
-  all-fine n b (is k) p h g = (none-fine, none-fine, (tt, variable-below k (yes-right b (elem k variables) h)))
-  all-fine n b (filter e t) p h g =
-      let q = p + length (print e) + 1 in
-      let w = tagged-parts tag (namesIn p e) (namesIn q t) g in
-      let u = all-fine 6 false e p (yes-left (fits 6 false e) (fits 0 true t) h) (w .0) in
-      let v = all-fine 0 true t q (yes-right (fits 6 false e) (fits 0 true t) h) (w .1) in
+  all-fine : (n : ℕ) (b : Bool) (e : Expr) → fits n b e ≡ true → All e
+  unfolding fits pathBy belowBy exprBy ProperSteps ProperStepsIn pathTerm exprTerm columns namesVariable
+  all-fine n b (wildcard a w) h = alone (Path.step a (wildcardTag w)) (step-fine a (wildcardTag w) (axis-below a h))
+  all-fine n b (named a name) h = alone (Path.step a (tag name)) (step-fine a (tag name) (axis-below a (yes-left (elem a axes) (isName name) h)))
+  all-fine n b dot h = alone (Path.step 0 65534) (step-fine 0 65534 (omega arith))
+  all-fine n b dots h = alone (Path.step 2 65534) (step-fine 2 65534 (omega arith))
+  all-fine n b (variable k) h = alone (Path.variable k) (variable-fine k (variable-below k h))
+  all-fine n b (bracket e) h = let u = all-fine 0 b e h in (u .0, compose-fine anywhere (pathOf e tag) anywhere-fine (u .0), u .2)
+  all-fine n b (negate e) h = (none-fine, none-fine, all-fine 0 true e (yes-right b (fits 0 true e) h) .2)
+  all-fine n b (is k) h = (none-fine, none-fine, (tt, variable-below k (yes-right b (elem k variables) h)))
+  all-fine n b (filter e t) h =
+      let u = all-fine 6 false e (yes-left (fits 6 false e) (fits 0 true t) h) in
+      let v = all-fine 0 true t (yes-right (fits 6 false e) (fits 0 true t) h) in
       alone (Path.filter (pathOf e tag) (exprOf t tag)) (pair (columns (pathTerm (pathOf e tag))) (columns (exprTerm (exprOf t tag))) (u .0) (v .2))
-  all-fine n b (rooted s e) p h g = root-fine s e (all-fine 5 false e (p + length (slashWord s)) (yes-right (leb n 4) (fits 5 false e) h) g)
-  all-fine n b (join o l r) p h g =
-      let q = p + length (print l) + length (word o) in
-      let w = tagged-parts tag (namesIn p l) (namesIn q r) g in
+  all-fine n b (rooted s e) h = root-fine s e (all-fine 5 false e (yes-right (leb n 4) (fits 5 false e) h))
+  all-fine n b (join o l r) h =
       let L = fits (level o) (logical o) l in
       let R = fits (suc (level o)) (logical o) r in
       let f : (L && R) ≡ true = yes-right (not (logical o) || b) (L && R) (yes-right (leb n (level o)) ((not (logical o) || b) && (L && R)) h) in
-      operator-fine o l r (all-fine (level o) (logical o) l p (yes-left L R f) (w .0)) (all-fine (suc (level o)) (logical o) r q (yes-right L R f) (w .1))
+      operator-fine o l r (all-fine (level o) (logical o) l (yes-left L R f)) (all-fine (suc (level o)) (logical o) r (yes-right L R f))
 
--- for the reader: the path of a grammatical expression, where none of its names has the tag 65534
-module _ (e : Expr) (h : fits 0 false e ≡ true) (tag : List ℕ → ℕ) (p : ℕ) (g : Tagged tag (namesIn p e)) where
+-- for the reader: the path of a grammatical expression, whatever the tags of its names
+module _ (e : Expr) (h : fits 0 false e ≡ true) (tag : List ℕ → ℕ) where
   pub steps-proper : ProperSteps (pathOf e tag)
-  steps-proper = all-fine tag 0 false e p h g .0 .0
+  steps-proper = all-fine tag 0 false e h .0 .0
 
   pub columns-few : columnsOf (pathOf e tag) ≤ 3
-  columns-few = all-fine tag 0 false e p h g .0 .1
+  columns-few = all-fine tag 0 false e h .0 .1
 
   pub typed-passes : size (pathTerm (pathOf e tag)) ≤ 64 → verdict (queryChecks (tableOf (pathOf e tag)) 0 (columnsOf (pathOf e tag))) ≡ reply 0 0
   typed-passes z = made-passes (pathOf e tag) steps-proper z columns-few

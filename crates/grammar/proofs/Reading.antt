@@ -9,10 +9,12 @@ use mathlib.Core.List.{List, [], _∷_, _++_, append-assoc, append-nil}
 use lib.Dec.{leb, eqb}
 use borrow.Author.Tests.{eqb-true, leb-true, le-leb, lt-leb}
 use Rattle.model.proofs.Booleans.{no-yes, yes-left, yes-right, both-yes, or-cases}
+use Rattle.model.specs.Lists.{equal}
 use Rattle.grammar.specs.Grammar.{Expr, Op, Slash, ascii, elem, axes, axisWord, variables, nameBytes, allName, isName, level, logical, word, print, fits}
 use Rattle.grammar.specs.Grammar.Slash.{one, two}
+use Rattle.grammar.specs.Grammar.Wildcard.{star, node}
 use Rattle.grammar.specs.Grammar.Op.{or, and, union, intersect, except, slash}
-use Rattle.grammar.specs.Grammar.Expr.{star, named, dot, dots, variable, bracket, negate, is, filter, rooted, join}
+use Rattle.grammar.specs.Grammar.Expr.{wildcard, named, dot, dots, variable, bracket, negate, is, filter, rooted, join}
 use Rattle.grammar.specs.Online.{Choice, Place, run}
 use Rattle.grammar.specs.Online.Choice.{choice}
 use Rattle.grammar.specs.Online.Place.{between}
@@ -103,11 +105,11 @@ module _ (fs : List Frame) where
       (each-skip (axisChoice fs) axes _ (print (variable k)) (state fs (have (variable k)))
       (each-at (variableChoice fs) variables _ (print (variable k)) (state fs (have (variable k))) k h (inl (refl, refl, refl))))
 
-  read-star : (a : ℕ) → Reads (state fs (axis a)) (ascii "*") (state fs (have (star a)))
+  read-star : (a : ℕ) → Reads (state fs (axis a)) (ascii "*") (state fs (have (wildcard a star)))
   unfolding next
   read-star a =
-      token (state fs (axis a)) (state fs (have (star a))) (ascii "*")
-      (each-skip (nameChoice fs a) nameBytes _ (ascii "*") (state fs (have (star a))) (inl (refl, refl, refl)))
+      token (state fs (axis a)) (state fs (have (wildcard a star))) (ascii "*")
+      (each-skip (nameChoice fs a) nameBytes _ (ascii "*") (state fs (have (wildcard a star))) (inl (refl, refl, refl)))
 
   read-name : (a b : ℕ) → elem b nameBytes ≡ true → Reads (state fs (axis a)) (b ∷ []) (state fs (have (named a (b ∷ []))))
   unfolding next
@@ -140,6 +142,10 @@ module _ (fs : List Frame) where
 
   read-test : (e : Expr) → isPath e ≡ true → Reads (state fs (have e)) (ascii "[") (state (test e ∷ fs) want)
   read-test e h = has e _ _ (inr (inl (h, refl, refl)))
+
+  read-node : (a : ℕ) → Reads (state fs (have (named a (ascii "node")))) (ascii "()") (state fs (have (wildcard a node)))
+  unfolding equal
+  read-node a = has (named a (ascii "node")) _ _ (inr (inr (inr (inr (inr (inr (inr (inr (inr (inr (inl (refl, refl, refl))))))))))))
 
   -- where the inner gaps close to e, and leave a bracket
   module _ (e′ e : Expr) (gs : List Frame) (q : closed 0 fs e′ ≡ e) where
@@ -188,7 +194,7 @@ raise b c d f h = both-yes (f (yes-left b d h)) (yes-right b d h)
 -- a place that asks less
 pub fits-less : (e : Expr) (n m : ℕ) (b c : Bool) → n ≤ m → (b ≡ true → c ≡ true) → fits m b e ≡ true → fits n c e ≡ true
 unfolding fits
-fits-less (star a) n m b c l f h = h
+fits-less (wildcard a w) n m b c l f h = h
 fits-less (named a name) n m b c l f h = h
 fits-less dot n m b c l f h = h
 fits-less dots n m b c l f h = h
@@ -212,7 +218,7 @@ fits-less (join o x y) n m b c l f h =
 -- where no test may stand, there is a path
 pub fits-path : (e : Expr) (n : ℕ) → fits n false e ≡ true → isPath e ≡ true
 unfolding fits isPath
-fits-path (star a) n h = refl
+fits-path (wildcard a w) n h = refl
 fits-path (named a name) n h = refl
 fits-path dot n h = refl
 fits-path dots n h = refl
@@ -260,7 +266,7 @@ rooted-part n b s e h = yes-right (leb n 4) (fits 5 false e) h
 
 -- an expression read into a gap leaves gaps at its end, and its last part in the innermost
 unfoldable spine : Expr → List Frame → List Frame
-spine (star a) fs = fs
+spine (wildcard a w) fs = fs
 spine (named a name) fs = fs
 spine dot fs = fs
 spine dots fs = fs
@@ -273,7 +279,7 @@ spine (rooted s e) fs = spine e (lead s ∷ fs)
 spine (join o l r) fs = spine r (left l o ∷ fs)
 
 unfoldable tip : Expr → Expr
-tip (star a) = star a
+tip (wildcard a w) = wildcard a w
 tip (named a name) = named a name
 tip dot = dot
 tip dots = dots
@@ -288,7 +294,7 @@ tip (join o l r) = tip r
 -- closing these gaps again gives it back
 spine-opened : (e : Expr) (n : ℕ) (b : Bool) (fs : List Frame) → fits n b e ≡ true → opened n (spine e fs) ≡ opened n fs
 unfolding spine opened
-spine-opened (star a) n b fs h = refl
+spine-opened (wildcard a w) n b fs h = refl
 spine-opened (named a name) n b fs h = refl
 spine-opened dot n b fs h = refl
 spine-opened dots n b fs h = refl
@@ -307,7 +313,7 @@ spine-opened (join o l r) n b fs h =
 
 spine-closed : (e : Expr) (n : ℕ) (b : Bool) (fs : List Frame) → fits n b e ≡ true → closed n (spine e fs) (tip e) ≡ closed n fs e
 unfolding spine tip closed
-spine-closed (star a) n b fs h = refl
+spine-closed (wildcard a w) n b fs h = refl
 spine-closed (named a name) n b fs h = refl
 spine-closed dot n b fs h = refl
 spine-closed dots n b fs h = refl
@@ -343,7 +349,7 @@ floor-most (test e ∷ fs) = omega arith
 -- what binds as tightly as a filter leaves no gap
 spine-tight : (e : Expr) (b : Bool) (fs : List Frame) → fits 6 b e ≡ true → (spine e fs ≡ fs) × (tip e ≡ e)
 unfolding spine tip
-spine-tight (star a) b fs h = (refl, refl)
+spine-tight (wildcard a w) b fs h = (refl, refl)
 spine-tight (named a name) b fs h = (refl, refl)
 spine-tight dot b fs h = (refl, refl)
 spine-tight dots b fs h = (refl, refl)
@@ -398,6 +404,14 @@ read-names fs a (b ∷ bs) name h =
     (read-names fs a bs (name ++ b ∷ []) (yes-right (elem b nameBytes) (allName bs) h)
     ∙ ap (λ (l : List ℕ). between (state fs (have (named a l)))) (append-assoc name (b ∷ []) bs))
 
+-- a whole name behind its axis
+read-whole : (fs : List Frame) (a b : ℕ) (bs : List ℕ) → (elem b nameBytes && allName bs) ≡ true
+    → Reads (state fs (axis a)) (b ∷ bs) (state fs (have (named a (b ∷ bs))))
+read-whole fs a b bs h =
+    then (state fs (axis a)) (state fs (have (named a (b ∷ [])))) (state fs (have (named a (b ∷ bs)))) (b ∷ []) bs
+    (read-name fs a b (yes-left (elem b nameBytes) (allName bs) h))
+    (read-names fs a bs (b ∷ []) (yes-right (elem b nameBytes) (allName bs) h))
+
 either-sort : (a b : Bool) → (not a || b) ≡ true → a ≡ true → b ≡ true
 either-sort true b h p = h
 either-sort false b h p = no-yes refl p
@@ -405,7 +419,7 @@ either-sort false b h p = no-yes refl p
 -- the last part of a path is a path
 tip-path : (e : Expr) (n : ℕ) → fits n false e ≡ true → isPath (tip e) ≡ true
 unfolding tip
-tip-path (star a) n h = fits-path (star a) n h
+tip-path (wildcard a w) n h = fits-path (wildcard a w) n h
 tip-path (named a name) n h = fits-path (named a name) n h
 tip-path dot n h = fits-path dot n h
 tip-path dots n h = fits-path dots n h
@@ -434,15 +448,17 @@ may-follow o b l h f = go (logical o) h f
 -- every expression is read where it may stand
 read : (e : Expr) (fs : List Frame) → fits (floor fs) (takesTest fs) e ≡ true → Reads (state fs want) (print e) (state (spine e fs) (have (tip e)))
 unfolding print fits spine tip isName
-read (star a) fs h = then (state fs want) (state fs (axis a)) (state fs (have (star a))) (axisWord a) (ascii "*") (read-axis fs a h) (read-star fs a)
+read (wildcard a star) fs h = then (state fs want) (state fs (axis a)) (state fs (have (wildcard a star))) (axisWord a) (ascii "*") (read-axis fs a h) (read-star fs a)
+read (wildcard a node) fs h =
+    then (state fs want) (state fs (axis a)) (state fs (have (wildcard a node))) (axisWord a) (ascii "node()") (read-axis fs a h)
+    (then (state fs (axis a)) (state fs (have (named a (ascii "node")))) (state fs (have (wildcard a node))) (ascii "node") (ascii "()")
+    (read-whole fs a 110 (ascii "ode") (unfold elem nameBytes allName in refl))
+    (read-node fs a))
 read (named a []) fs h = no-yes refl (yes-right (elem a axes) false h)
 read (named a (b ∷ bs)) fs h =
-    let w = yes-right (elem a axes) (elem b nameBytes && allName bs) h in
     then (state fs want) (state fs (axis a)) (state fs (have (named a (b ∷ bs)))) (axisWord a) (b ∷ bs)
     (read-axis fs a (yes-left (elem a axes) (elem b nameBytes && allName bs) h))
-    (then (state fs (axis a)) (state fs (have (named a (b ∷ [])))) (state fs (have (named a (b ∷ bs)))) (b ∷ []) bs
-    (read-name fs a b (yes-left (elem b nameBytes) (allName bs) w))
-    (read-names fs a bs (b ∷ []) (yes-right (elem b nameBytes) (allName bs) w)))
+    (read-whole fs a b bs (yes-right (elem a axes) (elem b nameBytes && allName bs) h))
 read dot fs h = read-dot fs
 read dots fs h = then (state fs want) (state fs (have dot)) (state fs (have dots)) (ascii ".") (ascii ".") (read-dot fs) (read-dots fs)
 read (variable k) fs h = read-variable fs k h

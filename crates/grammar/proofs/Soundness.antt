@@ -7,14 +7,17 @@ use mathlib.Core.List.{List, [], _∷_, _++_, append-assoc, append-nil}
 use lib.Dec.{leb, eqb}
 use borrow.Author.Tests.{leb-true, leb-false, le-leb, eq-eqb}
 use Rattle.model.proofs.Booleans.{no-yes, yes-left, yes-right, both-yes, or-left, or-right}
+use Rattle.model.specs.Lists.{equal}
+use Rattle.model.proofs.Lists.{equal-is}
 use Rattle.grammar.specs.Grammar.{Expr, Op, Grammatical, Viable, ascii, elem, axes, axisWord, variables, nameBytes, allName, isName, level, logical, slashWord, word, print, fits}
 use Rattle.grammar.specs.Grammar.Slash.{one, two}
+use Rattle.grammar.specs.Grammar.Wildcard.{star}
 use Rattle.grammar.specs.Grammar.Op.{or, and, union, intersect, except, slash}
-use Rattle.grammar.specs.Grammar.Expr.{star, named, dot, dots, variable, bracket, negate, is, filter, rooted, join}
+use Rattle.grammar.specs.Grammar.Expr.{wildcard, named, dot, dots, variable, bracket, negate, is, filter, rooted, join}
 use Rattle.grammar.specs.Online.{Choice, Place, run, isDead}
 use Rattle.grammar.specs.Online.Choice.{choice}
 use Rattle.grammar.specs.Online.Place.{dead, between, within}
-use Rattle.grammar.specs.Automaton.{Frame, Focus, State, takesTest, floor, opened, closed, isPath, maySlash, slashed, mayFilter, filtered, mayParen, parenthesised, isDot, mayJoin, joined, each, axisChoice, variableChoice, nameChoice, isNamed, longer, longerChoice, isChoice, next, start, whole, outcomeOf}
+use Rattle.grammar.specs.Automaton.{Frame, Focus, State, takesTest, floor, opened, closed, isPath, maySlash, slashed, mayFilter, filtered, mayParen, parenthesised, isDot, mayJoin, joined, each, axisChoice, variableChoice, nameChoice, isNamed, nameOf, longer, isNode, asNode, longerChoice, isChoice, next, start, whole, outcomeOf}
 use Rattle.grammar.specs.Automaton.Frame.{left, lead, paren, negation, test}
 use Rattle.grammar.specs.Automaton.Focus.{want, axis, have}
 use Rattle.grammar.specs.Automaton.State.{state}
@@ -61,7 +64,7 @@ fits-join n b o l r w = both-yes (le-leb n (level o) (w .binds)) (both-yes (w .s
 -- a path may stand where no test may
 fits-plain : (e : Expr) (n : ℕ) (b : Bool) → fits n b e ≡ true → isPath e ≡ true → fits n false e ≡ true
 unfolding fits isPath
-fits-plain (star a) n b h p = h
+fits-plain (wildcard a w) n b h p = h
 fits-plain (named a name) n b h p = h
 fits-plain dot n b h p = h
 fits-plain dots n b h p = h
@@ -169,24 +172,52 @@ unfolding isName
 name-longer [] b h k = no-yes refl k
 name-longer (a ∷ bs) b h k = both-yes (yes-left (elem a nameBytes) (allName bs) k) (all-longer bs b h (yes-right (elem a nameBytes) (allName bs) k))
 
-longer-fine : (e : Expr) (b : ℕ) (t : Bool) → elem b nameBytes ≡ true → isNamed e ≡ true → fits 6 t e ≡ true
-    → (fits 6 t (longer e b) ≡ true) × (print (longer e b) ≡ print e ++ b ∷ [])
-unfolding fits print
-longer-fine (star a) b t h n f = no-yes refl n
-longer-fine (named a name) b t h n f =
-    (both-yes (yes-left (elem a axes) (isName name) f) (name-longer name b h (yes-right (elem a axes) (isName name) f)), sym (append-assoc (axisWord a) name (b ∷ [])))
-longer-fine dot b t h n f = no-yes refl n
-longer-fine dots b t h n f = no-yes refl n
-longer-fine (variable k) b t h n f = no-yes refl n
-longer-fine (bracket e) b t h n f = no-yes refl n
-longer-fine (negate e) b t h n f = no-yes refl n
-longer-fine (is k) b t h n f = no-yes refl n
-longer-fine (filter e x) b t h n f = no-yes refl n
-longer-fine (rooted s e) b t h n f = no-yes refl n
-longer-fine (join o l r) b t h n f = no-yes refl n
+-- what holds of every axis with a name holds of an expression that is one
+pub by-name : (P : Expr → Type 0) → ((a : ℕ) (name : List ℕ) → P (named a name)) → (e : Expr) → isNamed e ≡ true → P e
+by-name P f (wildcard a w) n = no-yes refl n
+by-name P f (named a name) n = f a name
+by-name P f dot n = no-yes refl n
+by-name P f dots n = no-yes refl n
+by-name P f (variable k) n = no-yes refl n
+by-name P f (bracket e) n = no-yes refl n
+by-name P f (negate e) n = no-yes refl n
+by-name P f (is k) n = no-yes refl n
+by-name P f (filter e t) n = no-yes refl n
+by-name P f (rooted s e) n = no-yes refl n
+by-name P f (join o l r) n = no-yes refl n
+
+-- 'node' is a name
+pub node-named : (e : Expr) → isNode e ≡ true → isNamed e ≡ true
+node-named e h = yes-left (isNamed e) (equal (nameOf e) (ascii "node")) h
+
+-- what holds of every axis with the name 'node', likewise
+by-node : (P : Expr → Type 0) → ((a : ℕ) → P (named a (ascii "node"))) → (e : Expr) → isNode e ≡ true → P e
+by-node P f e h =
+    by-name (λ (x : Expr). equal (nameOf x) (ascii "node") ≡ true → P x)
+    (λ a name n. subst (λ (l : List ℕ). P (named a l)) (sym (equal-is name (ascii "node") n)) (f a))
+    e (node-named e h) (yes-right (isNamed e) (equal (nameOf e) (ascii "node")) h)
+
+module _ (t : Bool) where
+  -- e goes on as x with the bytes w
+  abbrev GoesOn : Expr → Expr → List ℕ → Type 0
+  GoesOn e x w = fits 6 t e ≡ true → (fits 6 t x ≡ true) × (print x ≡ print e ++ w)
+
+  longer-fine : (e : Expr) (b : ℕ) → elem b nameBytes ≡ true → isNamed e ≡ true → GoesOn e (longer e b) (b ∷ [])
+  unfolding fits print
+  longer-fine e b h n =
+      by-name (λ (x : Expr). GoesOn x (longer x b) (b ∷ []))
+      (λ a name f. (both-yes (yes-left (elem a axes) (isName name) f) (name-longer name b h (yes-right (elem a axes) (isName name) f)), sym (append-assoc (axisWord a) name (b ∷ []))))
+      e n
+
+  node-fine : (e : Expr) → isNode e ≡ true → GoesOn e (asNode e) (ascii "()")
+  unfolding fits print
+  node-fine e n =
+      by-node (λ (x : Expr). GoesOn x (asNode x) (ascii "()"))
+      (λ a f. (yes-left (elem a axes) (isName (ascii "node")) f, sym (append-assoc (axisWord a) (ascii "node") (ascii "()"))))
+      e n
 
 pub dot-is : (e : Expr) → isDot e ≡ true → e ≡ dot
-dot-is (star a) h = no-yes refl h
+dot-is (wildcard a w) h = no-yes refl h
 dot-is (named a name) h = no-yes refl h
 dot-is dot h = refl
 dot-is dots h = no-yes refl h
@@ -307,10 +338,10 @@ on (state fs want) c (f, u, look) =
 on (state fs (axis a)) c (f, h, look) =
     each-leads c (nameChoice fs a) nameBytes _
     (λ b k. (λ _. to-have c fs (axisWord a) look (named a (b ∷ [])) (b ∷ []) f (both-yes h (both-yes k (unfold allName in refl))) refl, tt))
-    (λ _. to-have c fs (axisWord a) look (star a) (ascii "*") f h refl, tt)
+    (λ _. to-have c fs (axisWord a) look (wildcard a star) (ascii "*") f h refl, tt)
 on (state fs (have e)) c (f, h, look) =
     each-leads c (longerChoice fs e) nameBytes _
-    (λ b k. (λ n. let w = longer-fine e b (takesTest fs) k n h in to-have c fs (print e) look (longer e b) (b ∷ []) f (w .0) (w .1), tt))
+    (λ b k. (λ n. let w = longer-fine (takesTest fs) e b k n h in to-have c fs (print e) look (longer e b) (b ∷ []) f (w .0) (w .1), tt))
     (each-leads c (isChoice fs e) variables _
     (λ k i. (λ n. to-have c fs (print e) look (is k) (ascii " is $" ++ (48 + k) ∷ []) f (both-yes (yes-right (isDot e) (takesTest fs) n) i) (rw (dot-is e (yes-left (isDot e) (takesTest fs) n))), tt)) (
       λ n. to-have c fs (print e) look dots (ascii ".") f refl (rw (dot-is e n)),
@@ -332,7 +363,10 @@ on (state fs (have e)) c (f, h, look) =
                       joins except,
                       (
                         joins (slash one),
-                        tt,
+                        (
+                          λ n. let w = node-fine (takesTest fs) e n h in to-have c fs (print e) look (asNode e) (ascii "()") f (w .0) (w .1),
+                          tt,
+                        ),
                       ),
                     ),
                   ),
@@ -402,7 +436,7 @@ unfolding inFocus fits print
 after-viable (state fs want) c (f, u, look) =
     plugged fs dot c (ascii ".") f refl (ap (λ (l : List ℕ). l ++ ascii ".") (sym (append-nil (shown fs)) ∙ look))
 after-viable (state fs (axis a)) c (f, h, look) =
-    plugged fs (star a) c (ascii "*") f h (sym (append-assoc (shown fs) (axisWord a) (ascii "*")) ∙ ap (λ (l : List ℕ). l ++ ascii "*") look)
+    plugged fs (wildcard a star) c (ascii "*") f h (sym (append-assoc (shown fs) (axisWord a) (ascii "*")) ∙ ap (λ (l : List ℕ). l ++ ascii "*") look)
 after-viable (state fs (have e)) c (f, h, look) =
     plugged fs e c [] f (fits-less e (floor fs) 6 (takesTest fs) (takesTest fs) (floor-most fs) (λ p. p) h) (look ∙ sym (append-nil c))
 

@@ -1,4 +1,4 @@
--- What typed queries stand for: '//' is short for '/descendant-or-self::*/', and a path in a test says that it reaches a node.
+-- What typed queries stand for: '//' is short for '/descendant-or-self::node()/', and a path in a test says that it reaches a node.
 use Prim.Native.Nat.{ℕ}
 use native.Mathlib.Omega.{arith}
 use mathlib.Core.Path.{_≡_, refl, sym, ap}
@@ -8,10 +8,11 @@ use Rattle.model.proofs.Booleans.{no-yes}
 use Rattle.model.specs.Syntax.{Path, NodeExpr}
 use Rattle.grammar.specs.Grammar.{Expr, Slash, ascii, axes, axisWord, elem, slashWord, print, fits}
 use Rattle.grammar.specs.Grammar.Slash.{one, two}
+use Rattle.grammar.specs.Grammar.Wildcard.{node}
 use Rattle.grammar.specs.Grammar.Op.{or, and, union, intersect, except, slash}
-use Rattle.grammar.specs.Grammar.Expr.{star, named, dot, dots, variable, bracket, negate, is, filter, rooted, join}
+use Rattle.grammar.specs.Grammar.Expr.{wildcard, named, dot, dots, variable, bracket, negate, is, filter, rooted, join}
 use Rattle.grammar.specs.Automaton.{isPath}
-use Rattle.grammar.specs.Typed.{pathOf, below, exprOf}
+use Rattle.grammar.specs.Typed.{belowBy, exprBy, pathBy, pathOf, below, exprOf}
 use Rattle.grammar.proofs.Reading.{operands, fits-path}
 use Rattle.grammar.proofs.Soundness.{fits-join}
 
@@ -23,40 +24,40 @@ pub record Stands (n : ℕ) (text : List ℕ) (tag : List ℕ → ℕ) (p : Path
   pub means : pathOf expr tag ≡ p
 
 module _ (tag : List ℕ → ℕ) where
-  -- l//r stands for what l/descendant-or-self::*/r does
+  -- l//r stands for what l/descendant-or-self::node()/r does
   pub double-slash : (l r : Expr) → fits 5 false (join (slash two) l r) ≡ true
-      → Stands 5 (print l ++ (ascii "/descendant-or-self::*/" ++ print r)) tag (pathOf (join (slash two) l r) tag)
-  unfolding print pathOf axisWord elem
+      → Stands 5 (print l ++ (ascii "/descendant-or-self::node()/" ++ print r)) tag (pathOf (join (slash two) l r) tag)
+  unfolding print pathBy axisWord elem
   double-slash l r h =
       let w = operands 5 false (slash two) l r h in
       record {
-        expr = join (slash one) (join (slash one) l (star 11)) r;
-        sound = fits-join 5 false (slash one) (join (slash one) l (star 11)) r (record {
+        expr = join (slash one) (join (slash one) l (wildcard 11 node)) r;
+        sound = fits-join 5 false (slash one) (join (slash one) l (wildcard 11 node)) r (record {
           binds = w .binds;
           sorted = refl;
-          onLeft = fits-join 5 false (slash one) l (star 11) (record { binds = w .binds; sorted = refl; onLeft = w .onLeft; onRight = unfold fits axes in refl });
+          onLeft = fits-join 5 false (slash one) l (wildcard 11 node) (record { binds = w .binds; sorted = refl; onLeft = w .onLeft; onRight = unfold fits axes in refl });
           onRight = w .onRight;
         });
-        looks = append-assoc (print l) (ascii "/descendant-or-self::*") (ascii "/" ++ print r);
+        looks = append-assoc (print l) (ascii "/descendant-or-self::node()") (ascii "/" ++ print r);
         means = refl;
       }
 
-  -- a run of steps behind descendant-or-self::*/
+  -- a run of steps behind descendant-or-self::node()/
   abbrev Below : Expr → Type 0
-  Below e = Stands 5 (ascii "descendant-or-self::*/" ++ print e) tag (below e tag)
+  Below e = Stands 5 (ascii "descendant-or-self::node()/" ++ print e) tag (below e tag)
 
-  below-step : (e : Expr) → fits 6 false e ≡ true → below e tag ≡ Path.compose (Path.step 11 65535) (pathOf e tag) → Below e
-  unfolding print pathOf axisWord elem
+  below-step : (e : Expr) → fits 6 false e ≡ true → below e tag ≡ Path.compose (Path.step 11 65534) (pathOf e tag) → Below e
+  unfolding print pathBy axisWord elem
   below-step e h p =
       record {
-        expr = join (slash one) (star 11) e;
-        sound = fits-join 5 false (slash one) (star 11) e (record { binds = omega arith; sorted = refl; onLeft = unfold fits axes in refl; onRight = h });
+        expr = join (slash one) (wildcard 11 node) e;
+        sound = fits-join 5 false (slash one) (wildcard 11 node) e (record { binds = omega arith; sorted = refl; onLeft = unfold fits axes in refl; onRight = h });
         looks = refl;
         means = sym p;
       }
 
   below-run : (s : Slash) (l r : Expr) → fits 5 false (join (slash s) l r) ≡ true → Below l → Below (join (slash s) l r)
-  unfolding print pathOf below
+  unfolding print pathBy belowBy
   below-run s l r h w =
       let k = operands 5 false (slash s) l r h in
       record {
@@ -68,11 +69,11 @@ module _ (tag : List ℕ → ℕ) where
     where
       go : (s : Slash) → pathOf (join (slash s) (w .expr) r) tag ≡ below (join (slash s) l r) tag
       go one = ap (λ (p : Path). Path.compose p (pathOf r tag)) (w .means)
-      go two = ap (λ (p : Path). Path.compose (Path.compose p (Path.step 11 65535)) (pathOf r tag)) (w .means)
+      go two = ap (λ (p : Path). Path.compose (Path.compose p (Path.step 11 65534)) (pathOf r tag)) (w .means)
 
   behind-anywhere : (e : Expr) → fits 5 false e ≡ true → Below e
-  unfolding fits below pathOf
-  behind-anywhere (star a) h = below-step (star a) h refl
+  unfolding fits belowBy pathBy
+  behind-anywhere (wildcard a w) h = below-step (wildcard a w) h refl
   behind-anywhere (named a name) h = below-step (named a name) h refl
   behind-anywhere dot h = below-step dot h refl
   behind-anywhere dots h = below-step dots h refl
@@ -89,17 +90,17 @@ module _ (tag : List ℕ → ℕ) where
   behind-anywhere (join except l r) h = no-yes refl h
   behind-anywhere (join (slash s) l r) h = below-run s l r h (behind-anywhere l (operands 5 false (slash s) l r h .onLeft))
 
-  -- a leading // stands for /descendant-or-self::*/ before the run
+  -- a leading // stands for /descendant-or-self::node()/ before the run
   pub leading-slashes : (e : Expr) → fits 4 false (rooted two e) ≡ true
-      → Stands 4 (ascii "/descendant-or-self::*/" ++ print e) tag (pathOf (rooted two e) tag)
-  unfolding fits print pathOf
+      → Stands 4 (ascii "/descendant-or-self::node()/" ++ print e) tag (pathOf (rooted two e) tag)
+  unfolding fits print pathBy
   leading-slashes e h =
       let w = behind-anywhere e h in
       record { expr = rooted one (w .expr); sound = w .sound; looks = ap (λ (t : List ℕ). ascii "/" ++ t) (w .looks); means = ap Path.fromRoot (w .means) }
 
   path-exists : (e : Expr) → isPath e ≡ true → exprOf e tag ≡ NodeExpr.exists (pathOf e tag)
-  unfolding isPath exprOf pathOf
-  path-exists (star a) h = refl
+  unfolding isPath exprBy pathBy
+  path-exists (wildcard a w) h = refl
   path-exists (named a name) h = refl
   path-exists dot h = refl
   path-exists dots h = refl

@@ -4,10 +4,12 @@ use Prim.Native.Nat.{ℕ, suc, _+_}
 use mathlib.Core.Bool.{Bool, true, false, not, _&&_, cond}
 use mathlib.Core.List.{List, [], _∷_, _++_}
 use lib.Dec.{leb}
+use Rattle.model.specs.Lists.{equal}
 use Rattle.grammar.specs.Grammar.{Expr, Op, Slash, ascii, axes, axisWord, variables, nameBytes, level, logical, word}
 use Rattle.grammar.specs.Grammar.Slash.{one, two}
+use Rattle.grammar.specs.Grammar.Wildcard.{star, node}
 use Rattle.grammar.specs.Grammar.Op.{or, and, union, intersect, except, slash}
-use Rattle.grammar.specs.Grammar.Expr.{star, named, dot, dots, variable, bracket, negate, is, filter, rooted, join}
+use Rattle.grammar.specs.Grammar.Expr.{wildcard, named, dot, dots, variable, bracket, negate, is, filter, rooted, join}
 use Rattle.grammar.specs.Online.{Choice, Place, run, reach}
 use Rattle.grammar.specs.Online.Choice.{choice}
 
@@ -70,7 +72,7 @@ closed n (test x ∷ fs) e = e
 
 -- an expression is a path
 unfoldable pub isPath : Expr → Bool
-isPath (star a) = true
+isPath (wildcard a w) = true
 isPath (named a name) = true
 isPath dot = true
 isPath dots = true
@@ -84,7 +86,7 @@ isPath (join o l r) = not (logical o)
 
 -- '.', behind which another '.' or ' is $k' may come
 abbrev pub isDot : Expr → Bool
-isDot (star a) = false
+isDot (wildcard a w) = false
 isDot (named a name) = false
 isDot dot = true
 isDot dots = false
@@ -98,7 +100,7 @@ isDot (join o l r) = false
 
 -- an axis with a name, which may go on
 abbrev pub isNamed : Expr → Bool
-isNamed (star a) = false
+isNamed (wildcard a w) = false
 isNamed (named a name) = true
 isNamed dot = false
 isNamed dots = false
@@ -110,19 +112,45 @@ isNamed (filter e t) = false
 isNamed (rooted s e) = false
 isNamed (join o l r) = false
 
--- a name with one byte more; nothing else goes on so, and what stands for it is of no account
+-- its axis; what stands for that of anything else is of no account
+abbrev pub axisOf : Expr → ℕ
+axisOf (wildcard a w) = 0
+axisOf (named a name) = a
+axisOf dot = 0
+axisOf dots = 0
+axisOf (variable k) = 0
+axisOf (bracket e) = 0
+axisOf (negate e) = 0
+axisOf (is k) = 0
+axisOf (filter e t) = 0
+axisOf (rooted s e) = 0
+axisOf (join o l r) = 0
+
+-- its name, likewise
+abbrev pub nameOf : Expr → List ℕ
+nameOf (wildcard a w) = []
+nameOf (named a name) = name
+nameOf dot = []
+nameOf dots = []
+nameOf (variable k) = []
+nameOf (bracket e) = []
+nameOf (negate e) = []
+nameOf (is k) = []
+nameOf (filter e t) = []
+nameOf (rooted s e) = []
+nameOf (join o l r) = []
+
+-- a name with one byte more
 abbrev pub longer : Expr → ℕ → Expr
-longer (star a) b = dot
-longer (named a name) b = named a (name ++ b ∷ [])
-longer dot b = dot
-longer dots b = dot
-longer (variable k) b = dot
-longer (bracket e) b = dot
-longer (negate e) b = dot
-longer (is k) b = dot
-longer (filter e t) b = dot
-longer (rooted s e) b = dot
-longer (join o l r) b = dot
+longer e b = named (axisOf e) (nameOf e ++ b ∷ [])
+
+-- an axis with the name 'node', behind which '()' may come
+abbrev pub isNode : Expr → Bool
+isNode e = isNamed e && equal (nameOf e) (ascii "node")
+
+-- the same with '()', which is a name no longer
+abbrev pub asNode : Expr → Expr
+asNode e = wildcard (axisOf e) node
 
 -- '/' may come where an expression is wanted: it doubles a slash, or leads
 abbrev pub maySlash : List Frame → Bool
@@ -240,6 +268,7 @@ onwards fs e =
     ∷ joinChoice fs e intersect
     ∷ joinChoice fs e except
     ∷ joinChoice fs e (slash one)
+    ∷ choice (isNode e) (ascii "()") (state fs (have (asNode e)))
     ∷ []
 
 -- the same with ' is $k'
@@ -257,7 +286,7 @@ next (state fs want) =
     ∷ choice (maySlash fs) (ascii "/") (state (slashed fs) want)
     ∷ []))
 next (state fs (axis a)) =
-    each (nameChoice fs a) nameBytes (choice true (ascii "*") (state fs (have (star a))) ∷ [])
+    each (nameChoice fs a) nameBytes (choice true (ascii "*") (state fs (have (wildcard a star))) ∷ [])
 next (state fs (have e)) = each (longerChoice fs e) nameBytes (behind fs e)
 
 -- the beginning of every text

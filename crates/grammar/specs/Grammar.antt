@@ -6,7 +6,7 @@
 --     Rooted = ["/" | "//"] Run                                  4
 --     Run    = Step (("/" | "//") Step)*                         5
 --     Step   = Prim ("[" Test "]")*                              6
---     Prim   = axis "::" ("*" | name) | "." | ".." | "$0" | "$1" | "$2" | "(" Path ")"
+--     Prim   = axis "::" ("*" | "node()" | name) | "." | ".." | "$0" | "$1" | "$2" | "(" Path ")"
 --     Test   = Conj (" or " Conj)*                           n = 0, b = true
 --     Conj   = Unit (" and " Unit)*                              1
 --     Unit   = Path | "not(" Test ")" | ". is $0" | ". is $1" | ". is $2" | "(" Test that is no whole Path ")"    2
@@ -81,10 +81,15 @@ pub data Op : Type 0 where
   except : Op
   slash : Slash → Op
 
+-- the tests of a step that are no names: '*' and 'node()'
+pub data Wildcard : Type 0 where
+  star : Wildcard
+  node : Wildcard
+
 -- expressions as they are written
 pub data Expr : Type 0 where
-  -- axis::* and axis::name
-  star : ℕ → Expr
+  -- axis::* or axis::node(), and axis::name
+  wildcard : ℕ → Wildcard → Expr
   named : ℕ → List ℕ → Expr
   -- '.', '..' and '$k'
   dot : Expr
@@ -115,9 +120,14 @@ word intersect = ascii " intersect "
 word except = ascii " except "
 word (slash s) = slashWord s
 
+-- '*' and 'node()'
+abbrev pub wildcardWord : Wildcard → List ℕ
+wildcardWord star = ascii "*"
+wildcardWord node = ascii "node()"
+
 -- what an expression looks like
 unfoldable pub print : Expr → List ℕ
-print (star a) = axisWord a ++ ascii "*"
+print (wildcard a w) = axisWord a ++ wildcardWord w
 print (named a name) = axisWord a ++ name
 print dot = ascii "."
 print dots = ascii ".."
@@ -161,7 +171,7 @@ isName (b ∷ bs) = elem b nameBytes && allName bs
 -- Operators of one level group leftwards: the left operand may bind as its operator does, the right one binds tighter.
 -- A leading slash takes a whole run of steps. A bracket is a path if it holds one, and else a test
 unfoldable pub fits : ℕ → Bool → Expr → Bool
-fits n b (star a) = elem a axes
+fits n b (wildcard a w) = elem a axes
 fits n b (named a name) = elem a axes && isName name
 fits n b dot = true
 fits n b dots = true

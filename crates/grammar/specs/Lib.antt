@@ -2,3 +2,4 @@ pub mod Grammar
 pub mod Online
 pub mod Automaton
 pub mod Typed
+pub mod Before

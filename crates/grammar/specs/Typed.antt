@@ -3,81 +3,107 @@ use Prim.Native.Nat.{ℕ, _+_}
 use mathlib.Core.List.{List, [], _∷_, _++_}
 use lib.ListN.{length}
 use Rattle.model.specs.Syntax.{Path, NodeExpr}
-use Rattle.grammar.specs.Grammar.{Expr, axisWord, slashWord, word, print}
+use Rattle.grammar.specs.Grammar.{Expr, Wildcard, axisWord, slashWord, word, print}
 use Rattle.grammar.specs.Grammar.Slash.{one, two}
+use Rattle.grammar.specs.Grammar.Wildcard.{star, node}
 use Rattle.grammar.specs.Grammar.Op.{or, and, union, intersect, except, slash}
-use Rattle.grammar.specs.Grammar.Expr.{star, named, dot, dots, variable, bracket, negate, is, filter, rooted, join}
+use Rattle.grammar.specs.Grammar.Expr.{wildcard, named, dot, dots, variable, bracket, negate, is, filter, rooted, join}
 
--- descendant-or-self::*, which '//' has between its slashes
-abbrev pub anywhere : Path
-anywhere = Path.step 11 65535
+-- the tag in a step of a test that is no name
+abbrev pub wildcardTag : Wildcard → ℕ
+wildcardTag star = 65535
+wildcardTag node = 65534
 
 -- what is no path has none: what stands for it here is of no account
 abbrev none : Path
 none = Path.variable 0
 
-unfoldable mutual
-  -- what a path stands for
-  pub pathOf : Expr → (List ℕ → ℕ) → Path
-  pathOf (star a) tag = Path.step a 65535
-  pathOf (named a name) tag = Path.step a (tag name)
-  pathOf dot tag = Path.step 0 65535
-  pathOf dots tag = Path.step 2 65535
-  pathOf (variable k) tag = Path.variable k
-  pathOf (bracket e) tag = pathOf e tag
-  pathOf (negate e) tag = none
-  pathOf (is k) tag = none
-  pathOf (filter e t) tag = Path.filter (pathOf e tag) (exprOf t tag)
-  pathOf (rooted one e) tag = Path.fromRoot (pathOf e tag)
-  pathOf (rooted two e) tag = Path.fromRoot (below e tag)
-  pathOf (join or l r) tag = none
-  pathOf (join and l r) tag = none
-  pathOf (join union l r) tag = Path.union (pathOf l tag) (pathOf r tag)
-  pathOf (join intersect l r) tag = Path.intersect (pathOf l tag) (pathOf r tag)
-  pathOf (join except l r) tag = Path.except (pathOf l tag) (pathOf r tag)
-  pathOf (join (slash one) l r) tag = Path.compose (pathOf l tag) (pathOf r tag)
-  pathOf (join (slash two) l r) tag = Path.compose (Path.compose (pathOf l tag) anywhere) (pathOf r tag)
+-- where '.', '..' and '//' stand for steps with the name test `any`
+module _ (any : ℕ) where
+  -- the step that '//' has between its slashes
+  abbrev pub anywhereBy : Path
+  anywhereBy = Path.step 11 any
 
-  -- a run of steps behind '//': what it stands for behind descendant-or-self::*/, the whole grouped leftwards
-  pub below : Expr → (List ℕ → ℕ) → Path
-  below (star a) tag = Path.compose anywhere (Path.step a 65535)
-  below (named a name) tag = Path.compose anywhere (Path.step a (tag name))
-  below dot tag = Path.compose anywhere (Path.step 0 65535)
-  below dots tag = Path.compose anywhere (Path.step 2 65535)
-  below (variable k) tag = Path.compose anywhere (Path.variable k)
-  below (bracket e) tag = Path.compose anywhere (pathOf e tag)
-  below (negate e) tag = none
-  below (is k) tag = none
-  below (filter e t) tag = Path.compose anywhere (Path.filter (pathOf e tag) (exprOf t tag))
-  below (rooted s e) tag = none
-  below (join or l r) tag = none
-  below (join and l r) tag = none
-  below (join union l r) tag = none
-  below (join intersect l r) tag = none
-  below (join except l r) tag = none
-  below (join (slash one) l r) tag = Path.compose (below l tag) (pathOf r tag)
-  below (join (slash two) l r) tag = Path.compose (Path.compose (below l tag) anywhere) (pathOf r tag)
+  unfoldable mutual
+    -- what a path stands for
+    pub pathBy : Expr → (List ℕ → ℕ) → Path
+    pathBy (wildcard a w) tag = Path.step a (wildcardTag w)
+    pathBy (named a name) tag = Path.step a (tag name)
+    pathBy dot tag = Path.step 0 any
+    pathBy dots tag = Path.step 2 any
+    pathBy (variable k) tag = Path.variable k
+    pathBy (bracket e) tag = pathBy e tag
+    pathBy (negate e) tag = none
+    pathBy (is k) tag = none
+    pathBy (filter e t) tag = Path.filter (pathBy e tag) (exprBy t tag)
+    pathBy (rooted one e) tag = Path.fromRoot (pathBy e tag)
+    pathBy (rooted two e) tag = Path.fromRoot (belowBy e tag)
+    pathBy (join or l r) tag = none
+    pathBy (join and l r) tag = none
+    pathBy (join union l r) tag = Path.union (pathBy l tag) (pathBy r tag)
+    pathBy (join intersect l r) tag = Path.intersect (pathBy l tag) (pathBy r tag)
+    pathBy (join except l r) tag = Path.except (pathBy l tag) (pathBy r tag)
+    pathBy (join (slash one) l r) tag = Path.compose (pathBy l tag) (pathBy r tag)
+    pathBy (join (slash two) l r) tag = Path.compose (Path.compose (pathBy l tag) anywhereBy) (pathBy r tag)
 
-  -- what a test stands for; a path is one too: that it reaches a node
-  pub exprOf : Expr → (List ℕ → ℕ) → NodeExpr
-  exprOf (star a) tag = NodeExpr.exists (Path.step a 65535)
-  exprOf (named a name) tag = NodeExpr.exists (Path.step a (tag name))
-  exprOf dot tag = NodeExpr.exists (Path.step 0 65535)
-  exprOf dots tag = NodeExpr.exists (Path.step 2 65535)
-  exprOf (variable k) tag = NodeExpr.exists (Path.variable k)
-  exprOf (bracket e) tag = exprOf e tag
-  exprOf (negate e) tag = NodeExpr.negate (exprOf e tag)
-  exprOf (is k) tag = NodeExpr.is k
-  exprOf (filter e t) tag = NodeExpr.exists (Path.filter (pathOf e tag) (exprOf t tag))
-  exprOf (rooted one e) tag = NodeExpr.exists (Path.fromRoot (pathOf e tag))
-  exprOf (rooted two e) tag = NodeExpr.exists (Path.fromRoot (below e tag))
-  exprOf (join or l r) tag = NodeExpr.either (exprOf l tag) (exprOf r tag)
-  exprOf (join and l r) tag = NodeExpr.both (exprOf l tag) (exprOf r tag)
-  exprOf (join union l r) tag = NodeExpr.exists (Path.union (pathOf l tag) (pathOf r tag))
-  exprOf (join intersect l r) tag = NodeExpr.exists (Path.intersect (pathOf l tag) (pathOf r tag))
-  exprOf (join except l r) tag = NodeExpr.exists (Path.except (pathOf l tag) (pathOf r tag))
-  exprOf (join (slash one) l r) tag = NodeExpr.exists (Path.compose (pathOf l tag) (pathOf r tag))
-  exprOf (join (slash two) l r) tag = NodeExpr.exists (Path.compose (Path.compose (pathOf l tag) anywhere) (pathOf r tag))
+    -- a run of steps behind '//': what it stands for behind that step, the whole grouped leftwards
+    pub belowBy : Expr → (List ℕ → ℕ) → Path
+    belowBy (wildcard a w) tag = Path.compose anywhereBy (Path.step a (wildcardTag w))
+    belowBy (named a name) tag = Path.compose anywhereBy (Path.step a (tag name))
+    belowBy dot tag = Path.compose anywhereBy (Path.step 0 any)
+    belowBy dots tag = Path.compose anywhereBy (Path.step 2 any)
+    belowBy (variable k) tag = Path.compose anywhereBy (Path.variable k)
+    belowBy (bracket e) tag = Path.compose anywhereBy (pathBy e tag)
+    belowBy (negate e) tag = none
+    belowBy (is k) tag = none
+    belowBy (filter e t) tag = Path.compose anywhereBy (Path.filter (pathBy e tag) (exprBy t tag))
+    belowBy (rooted s e) tag = none
+    belowBy (join or l r) tag = none
+    belowBy (join and l r) tag = none
+    belowBy (join union l r) tag = none
+    belowBy (join intersect l r) tag = none
+    belowBy (join except l r) tag = none
+    belowBy (join (slash one) l r) tag = Path.compose (belowBy l tag) (pathBy r tag)
+    belowBy (join (slash two) l r) tag = Path.compose (Path.compose (belowBy l tag) anywhereBy) (pathBy r tag)
+
+    -- what a test stands for; a path is one too: that it reaches a node
+    pub exprBy : Expr → (List ℕ → ℕ) → NodeExpr
+    exprBy (wildcard a w) tag = NodeExpr.exists (Path.step a (wildcardTag w))
+    exprBy (named a name) tag = NodeExpr.exists (Path.step a (tag name))
+    exprBy dot tag = NodeExpr.exists (Path.step 0 any)
+    exprBy dots tag = NodeExpr.exists (Path.step 2 any)
+    exprBy (variable k) tag = NodeExpr.exists (Path.variable k)
+    exprBy (bracket e) tag = exprBy e tag
+    exprBy (negate e) tag = NodeExpr.negate (exprBy e tag)
+    exprBy (is k) tag = NodeExpr.is k
+    exprBy (filter e t) tag = NodeExpr.exists (Path.filter (pathBy e tag) (exprBy t tag))
+    exprBy (rooted one e) tag = NodeExpr.exists (Path.fromRoot (pathBy e tag))
+    exprBy (rooted two e) tag = NodeExpr.exists (Path.fromRoot (belowBy e tag))
+    exprBy (join or l r) tag = NodeExpr.either (exprBy l tag) (exprBy r tag)
+    exprBy (join and l r) tag = NodeExpr.both (exprBy l tag) (exprBy r tag)
+    exprBy (join union l r) tag = NodeExpr.exists (Path.union (pathBy l tag) (pathBy r tag))
+    exprBy (join intersect l r) tag = NodeExpr.exists (Path.intersect (pathBy l tag) (pathBy r tag))
+    exprBy (join except l r) tag = NodeExpr.exists (Path.except (pathBy l tag) (pathBy r tag))
+    exprBy (join (slash one) l r) tag = NodeExpr.exists (Path.compose (pathBy l tag) (pathBy r tag))
+    exprBy (join (slash two) l r) tag = NodeExpr.exists (Path.compose (Path.compose (pathBy l tag) anywhereBy) (pathBy r tag))
+
+-- today that test is node(), so that '.' is self::node(), '..' is parent::node() and '//' is /descendant-or-self::node()/ (document 02,
+-- §5); it was the star before
+
+abbrev pub anywhere : Path
+anywhere = anywhereBy 65534
+
+-- what a path stands for
+abbrev pub pathOf : Expr → (List ℕ → ℕ) → Path
+pathOf = pathBy 65534
+
+-- a run of steps behind '//'
+abbrev pub below : Expr → (List ℕ → ℕ) → Path
+below = belowBy 65534
+
+-- what a test stands for
+abbrev pub exprOf : Expr → (List ℕ → ℕ) → NodeExpr
+exprOf = exprBy 65534
 
 -- a name as it is typed, and the place of its first byte
 pub record TypedName : Type 0 where
@@ -86,7 +112,7 @@ pub record TypedName : Type 0 where
 
 -- the names in an expression whose first byte stands at place p, in order
 unfoldable pub namesIn : ℕ → Expr → List TypedName
-namesIn p (star a) = []
+namesIn p (wildcard a w) = []
 namesIn p (named a name) = record { place = p + length (axisWord a); name = name } ∷ []
 namesIn p dot = []
 namesIn p dots = []

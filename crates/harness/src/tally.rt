@@ -46,6 +46,11 @@ pub const UNSEEN: usize = 56;
 
 pub const CHANGED: usize = 57;
 
+// How many random trees had a document node, and in how many of these a query's star left it out.
+pub const DOCUMENTS: usize = 58;
+
+pub const LEFT_OUT: usize = 59;
+
 pub fn add(tally: &mut Tally, at: usize, more: u64) {
     if at < 64 {
         let sum = std::num::wrapping_add_u64(tally[at], more);
@@ -171,10 +176,9 @@ pub fn expect_gaps(tally: &mut Tally, some: usize, of: usize) {
     expect(tally, sum_at(tally, AXES) == 8191);
 }
 
-// One of these sums is not 0, and no less than some of so many damaged indexes.
-fn expect_share(tally: &mut Tally, at: usize, some: usize, of: usize) {
+// One of these sums is not 0, and no less than some of so many of a whole.
+fn expect_share(tally: &mut Tally, at: usize, whole: u64, some: usize, of: usize) {
     let part = sum_at(tally, at);
-    let whole = std::num::wrapping_add_u64(sum_at(tally, BROKEN), sum_at(tally, UNSEEN));
     let least = table::times(some, whole as usize);
     expect(
         tally,
@@ -184,8 +188,15 @@ fn expect_share(tally: &mut Tally, at: usize, some: usize, of: usize) {
 
 // Of the damaged indexes no fewer than some of so many were refused, and as many were not and gave another answer.
 pub fn expect_damage(tally: &mut Tally, some: usize, of: usize) {
-    expect_share(tally, BROKEN, some, of);
-    expect_share(tally, CHANGED, some, of);
+    let whole = std::num::wrapping_add_u64(sum_at(tally, BROKEN), sum_at(tally, UNSEEN));
+    expect_share(tally, BROKEN, whole, some, of);
+    expect_share(tally, CHANGED, whole, some, of);
+}
+
+// In no fewer than some of so many trees with a document node a query's star left it out.
+pub fn expect_left_out(tally: &mut Tally, some: usize, of: usize) {
+    let whole = sum_at(tally, DOCUMENTS);
+    expect_share(tally, LEFT_OUT, whole, some, of);
 }
 
 // The line for the part that ends here.
@@ -252,6 +263,12 @@ pub fn show_all(tally: &Tally) {
     show_found(tally, BROKEN, b"damaged indexes refused: ");
     show_found(tally, UNSEEN, b"damaged indexes not refused: ");
     show_found(tally, CHANGED, b"of these with another answer: ");
+    show_found(tally, DOCUMENTS, b"trees with a document node: ");
+    show_found(
+        tally,
+        LEFT_OUT,
+        b"of these with a star that leaves it out: ",
+    );
     io::write_all(1, b"in all: ");
     show_number(sum_at(tally, COMPARED), b" compared, ");
     show_number(sum_at(tally, FAILED), b" failed\n");

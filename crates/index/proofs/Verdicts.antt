@@ -13,7 +13,7 @@ use Rattle.model.specs.Checks.{badTag, treeChecks, roomChecks}
 use Rattle.model.specs.declared.Reply.{Reply}
 use Rattle.model.proofs.Exists.{none-of}
 use Rattle.model.proofs.Refusals.{Passes, numbered, accepted, stop-all, pass-all, written-over}
-use Rattle.model.proofs.Accepted.{tree-ordered, tree-numbered}
+use Rattle.model.proofs.Accepted.{tree-ordered, tag-below, tree-numbered}
 use Rattle.checks.proofs.Verdicts.{zero-of}
 use Rattle.index.specs.declared.IndexReply.{IndexReply}
 use Rattle.index.specs.Index.{firstFrom, present, tagList, buffersChecks, indexChecks, telling, ifAccepted, Leaves}
@@ -29,7 +29,7 @@ tree-tagged t v p z =
     let w : Passes (treeChecks t) = accepted (treeChecks t) (tree-numbered t) (zero-of (treeChecks t) v p z) in
     record {
       at-most = tree-ordered t w .sound .at-most;
-      tags = λ x l. let m = ltb-false 65533 (treeOf t .tag x) (none-of (sizeOf t) (badTag (treeOf t)) x (w .1 .1 .0) l) in omega arith;
+      tags = λ x l. tag-below (treeOf t) x (none-of (sizeOf t) (badTag (treeOf t)) x (w .1 .1 .0) l);
     }
 
 module _ (t : Tree) (list : List ℕ) (s : Tagged t) (p : list ≡ present t) where

@@ -1,4 +1,5 @@
 pub mod Finding
+pub mod Letters
 pub mod Loop
 pub mod Machine
 pub mod Steps

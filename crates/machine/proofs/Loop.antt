@@ -80,7 +80,7 @@ module _ (text stack : List ℕ) (depth f at : ℕ) (w : At text stack depth f a
       let q : r ≡ turnOf (focusOf (w .here)) (gapsOf (w .here)) (getD text at 0 ∷ drop (suc at) text) =
       e ∙ ap (λ (n : ℕ). turnOf n (stackOf stack depth) (drop at text)) (sym (w .focus)) ∙ ap (λ (l : List ℕ). turnOf (focusOf (w .here)) l (drop at text)) (sym (w .gaps)) ∙ ap (turnOf (focusOf (w .here)) (gapsOf (w .here))) d in
       subst (λ (t : List ℕ). Turned (w .here) t r) (sym d)
-      (subst (λ (u : Turn). Turned (w .here) (getD text at 0 ∷ drop (suc at) text) u) (sym q) (turned (w .here) (getD text at 0) (drop (suc at) text)))
+      (subst (λ (u : Turn). Turned (w .here) (getD text at 0 ∷ drop (suc at) text) u) (sym q) (turned (w .here) (take at text) at-after (getD text at 0) (drop (suc at) text)))
 
   halted : (r : Turn) (p : ℕ) → at < length text → r ≡ turnOf f (stackOf stack depth) (drop at text) → r ≡ Halt p → Halts (w .here) (drop at text) p
   halted r p h e s = subst (λ (u : Turn). Turned (w .here) (drop at text) u) s (turn-here r h e)

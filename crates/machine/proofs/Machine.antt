@@ -7,29 +7,33 @@ use mathlib.Core.Bool.{Bool, true, false, not, _&&_, _||_, cond}
 use mathlib.Core.List.{List, [], _∷_, _++_, map}
 use lib.ListN.{length, take, drop, getD, length-take}
 use lib.Dec.{leb, ltb, eqb}
-use borrow.Author.Tests.{eqb-true, ltb-true, ltb-false}
+use borrow.Author.Tests.{eqb-true, ne-eqb, ltb-true, ltb-false, lt-ltb}
 use Rattle.model.proofs.Booleans.{no-yes, yes-left, yes-right}
+use Rattle.model.specs.Lists.{equal}
 use Rattle.words.specs.declared.Scan.{Scan}
 use Rattle.words.specs.declared.Scan.the-variants.{Word, Stop}
 use Rattle.machine.specs.declared.Move.{Move}
 use Rattle.words.specs.Words.{common, slot, greater, scanFrom, allWords, wordTable}
-use Rattle.grammar.specs.Grammar.{Expr, Op, ascii, elem, axes, axisWord, variables, nameBytes, level, logical}
+use Rattle.grammar.specs.Grammar.{Expr, Op, ascii, elem, axes, axisWord, variables, nameBytes, isName, level, logical, fits}
 use Rattle.grammar.specs.Grammar.Slash.{one, two}
+use Rattle.grammar.specs.Grammar.Wildcard.{star}
 use Rattle.grammar.specs.Grammar.Op.{or, and, union, intersect, except, slash}
-use Rattle.grammar.specs.Grammar.Expr.{star, named, dot, dots, variable, bracket, negate, is, filter, rooted, join}
+use Rattle.grammar.specs.Grammar.Expr.{wildcard, named, dot, dots, variable, bracket, negate, is, filter, rooted, join}
 use Rattle.grammar.specs.Online.{Choice, run, reach}
 use Rattle.grammar.specs.Online.Choice.{choice}
 use Rattle.grammar.specs.Online.Place.{between}
-use Rattle.grammar.specs.Automaton.{Frame, State, takesTest, opened, closed, isPath, isDot, isNamed, maySlash, slashed, mayFilter, filtered, mayParen, parenthesised, mayJoin, joined, each, nameChoice, longer, longerChoice, behind, next}
+use Rattle.grammar.specs.Automaton.{Frame, State, takesTest, opened, closed, isPath, isDot, isNamed, nameOf, isNode, maySlash, slashed, mayFilter, filtered, mayParen, parenthesised, mayJoin, joined, each, nameChoice, longer, longerChoice, behind, next}
 use Rattle.grammar.specs.Automaton.Frame.{left, lead, paren, negation, test}
 use Rattle.grammar.specs.Automaton.Focus.{want, axis, have}
 use Rattle.grammar.specs.Automaton.State.{state}
-use Rattle.machine.specs.Machine.{opCode, isSlash, codesIn, codes, focusCode, top, takes, slashes, binds, pops, sort, mv, pushed, moved, wantMay, slashMove, wantMove, haveMay, haveMove, ofScan, haveTurn, turnOf}
+use Rattle.machine.specs.Machine.{opCode, isSlash, codesIn, codes, letterFocus, lettersFocus, nameFocus, focusCode, top, takes, slashes, binds, pops, sort, mv, pushed, moved, wantMay, slashMove, wantMove, haveMay, haveMove, ofScan, letterTurn, haveTurn, turnOf}
 use Rattle.machine.specs.declared.Turn.{Turn}
 use Rattle.machine.specs.declared.Turn.the-variants.{Go, Halt}
 use Rattle.grammar.proofs.Online.{Offers, isCons, offered-cons}
 use Rattle.grammar.proofs.Choices.{Nth, Taken}
 use Rattle.grammar.proofs.Reading.{filled, token, Reads, each-skip, each-at}
+use Rattle.grammar.proofs.Soundness.{After, by-name}
+use Rattle.machine.proofs.Letters.{name-high, name-more, name-node}
 use Rattle.machine.proofs.Finding.{hits, most, isBetween, greater-zero, stops}
 
 -- the codes tell what the gaps do
@@ -218,51 +222,57 @@ closed-sort (test x ∷ fs) h n e l m = refl
 
 -- the focus tells what stands in the innermost gap
 
-four-five : (b : Bool) → (eqb (cond b 4 5) 2 ≡ false) × (eqb (cond b 4 5) 3 ≡ false) × (ltb (cond b 4 5) 5 ≡ b)
-four-five true = (refl, refl, refl)
-four-five false = (refl, refl, refl)
+three-two : (b : Bool) → (eqb (cond b 3 2) 4 ≡ false) × (ltb 2 (cond b 3 2) ≡ b)
+three-two true = (refl, refl)
+three-two false = (refl, refl)
 
-pub focus-named : (e : Expr) → eqb (focusCode (have e)) 2 ≡ isNamed e
-unfolding focusCode isPath
-focus-named (star a) = refl
-focus-named (named a name) = refl
-focus-named dot = refl
-focus-named dots = refl
-focus-named (variable k) = refl
-focus-named (bracket e) = four-five (isPath e) .0
-focus-named (negate e) = refl
-focus-named (is k) = refl
-focus-named (filter e t) = refl
-focus-named (rooted s e) = refl
-focus-named (join o l r) = four-five (not (logical o)) .0
+pub focus-named : (e : Expr) → ltb 4 (focusCode (have e)) ≡ isNamed e
+unfolding focusCode
+focus-named e = go (isNamed e) (isDot e) (isPath e)
+  where
+    go : (n d p : Bool) → ltb 4 (cond n (nameFocus (nameOf e)) (cond d 4 (cond p 3 2))) ≡ n
+    go true d p = lt-ltb 4 (nameFocus (nameOf e)) (name-high (nameOf e))
+    go false true p = refl
+    go false false true = refl
+    go false false false = refl
 
-pub focus-dot : (e : Expr) → eqb (focusCode (have e)) 3 ≡ isDot e
+pub focus-node : (e : Expr) → eqb (focusCode (have e)) 9 ≡ isNode e
+unfolding focusCode
+focus-node e = go (isNamed e) (isDot e) (isPath e)
+  where
+    go : (n d p : Bool) → eqb (cond n (nameFocus (nameOf e)) (cond d 4 (cond p 3 2))) 9 ≡ (n && equal (nameOf e) (ascii "node"))
+    go true d p = name-node (nameOf e)
+    go false true p = refl
+    go false false true = refl
+    go false false false = refl
+
+pub focus-dot : (e : Expr) → eqb (focusCode (have e)) 4 ≡ isDot e
 unfolding focusCode isPath
-focus-dot (star a) = refl
-focus-dot (named a name) = refl
+focus-dot (wildcard a w) = refl
+focus-dot (named a name) = let h = name-high name in ne-eqb (nameFocus name) 4 (λ q. omega arith)
 focus-dot dot = refl
 focus-dot dots = refl
 focus-dot (variable k) = refl
-focus-dot (bracket e) = four-five (isPath e) .1
+focus-dot (bracket e) = three-two (isPath e) .0
 focus-dot (negate e) = refl
 focus-dot (is k) = refl
 focus-dot (filter e t) = refl
 focus-dot (rooted s e) = refl
-focus-dot (join o l r) = four-five (not (logical o)) .1
+focus-dot (join o l r) = three-two (not (logical o)) .0
 
-pub focus-path : (e : Expr) → ltb (focusCode (have e)) 5 ≡ isPath e
+pub focus-path : (e : Expr) → ltb 2 (focusCode (have e)) ≡ isPath e
 unfolding focusCode isPath
-focus-path (star a) = refl
-focus-path (named a name) = refl
+focus-path (wildcard a w) = refl
+focus-path (named a name) = let h = name-high name in lt-ltb 2 (nameFocus name) (omega arith)
 focus-path dot = refl
 focus-path dots = refl
 focus-path (variable k) = refl
-focus-path (bracket e) = four-five (isPath e) .2
+focus-path (bracket e) = three-two (isPath e) .1
 focus-path (negate e) = refl
 focus-path (is k) = refl
 focus-path (filter e t) = refl
 focus-path (rooted s e) = refl
-focus-path (join o l r) = four-five (not (logical o)) .2
+focus-path (join o l r) = three-two (not (logical o)) .1
 
 -- a search in a table of words that are those of the choices
 
@@ -403,7 +413,7 @@ matches-want : (fs : List Frame) → Matches wordTable (wantMay (top (codes fs))
 unfolding next axes variables axisWord wordTable allWords wantMay wantMove slot focusCode codesIn isPath
 matches-want fs =
     rows true (mv 1 0 13) axisWord (λ a. state fs (axis a)) axes refl refl refl (λ _. (refl, refl))
-    (rows true (mv 4 0 13) (λ k. ascii "$" ++ (48 + k) ∷ []) (λ k. state fs (have (variable k))) variables refl refl refl (λ _. (refl, refl))
+    (rows true (mv 3 0 13) (λ k. ascii "$" ++ (48 + k) ∷ []) (λ k. state fs (have (variable k))) variables refl refl refl (λ _. (refl, refl))
     (row refl refl (λ _. (refl, refl))
     (row refl refl (λ _. (ap (λ (b : Bool). cond b 10 9 ∷ codes fs) (sym (takes-top fs)) ∙ either (takes (top (codes fs))), refl))
     (row (takes-top fs) refl (λ _. (refl, refl))
@@ -420,7 +430,7 @@ drop-more zero (k ∷ ks) l a h = cc
 drop-more (suc p) [] l a h = let z : _≡_ {A = ℕ} 0 1 = cc in absurd (omega arith)
 drop-more (suc p) (k ∷ ks) l a h = drop-more p ks l a h
 
-filtered-erases : (gs : List Frame) (d : Expr) (ks : List ℕ) (p : ℕ) → codes gs ≡ drop p ks → mayFilter gs ≡ true → Erases (mv 4 (suc p) 13) ks (filtered gs d)
+filtered-erases : (gs : List Frame) (d : Expr) (ks : List ℕ) (p : ℕ) → codes gs ≡ drop p ks → mayFilter gs ≡ true → Erases (mv 3 (suc p) 13) ks (filtered gs d)
 unfolding codesIn focusCode isPath
 filtered-erases [] d ks p h m = no-yes refl m
 filtered-erases (left l o ∷ fs) d ks p h m = no-yes refl m
@@ -430,15 +440,15 @@ filtered-erases (negation ∷ fs) d ks p h m = no-yes refl m
 filtered-erases (test x ∷ fs) d ks p h m = (drop-more p ks (codes fs) 12 h, refl)
 
 paren-erases : (gs : List Frame) (d : Expr) (ks : List ℕ) (p : ℕ) (b : Bool) → codes gs ≡ drop p ks → isPath d ≡ b → mayParen gs ≡ true
-    → Erases (mv (cond (eqb (top (codes gs)) 11) 5 (cond b 4 5)) (suc p) 13) ks (parenthesised gs d)
+    → Erases (mv (cond (eqb (top (codes gs)) 11) 2 (cond b 3 2)) (suc p) 13) ks (parenthesised gs d)
 unfolding codesIn focusCode isPath
 paren-erases [] d ks p b h e m = no-yes refl m
 paren-erases (left l o ∷ fs) d ks p b h e m = no-yes refl m
 paren-erases (lead s ∷ fs) d ks p b h e m = no-yes refl m
 paren-erases (paren ∷ fs) d ks p b h e m =
-    (drop-more p ks (codes fs) (cond (takesTest fs) 10 9) h, ap (λ (t : Bool). cond t 4 5) e ∙ go (takesTest fs))
+    (drop-more p ks (codes fs) (cond (takesTest fs) 10 9) h, ap (λ (t : Bool). cond t 3 2) e ∙ go (takesTest fs))
   where
-    go : (t : Bool) → _≡_ {A = ℕ} (cond b 4 5) (cond (eqb (cond t 10 9) 11) 5 (cond b 4 5))
+    go : (t : Bool) → _≡_ {A = ℕ} (cond b 3 2) (cond (eqb (cond t 10 9) 11) 2 (cond b 3 2))
     go true = refl
     go false = refl
 paren-erases (negation ∷ fs) d ks p b h e m = (drop-more p ks (codes fs) 11 h, refl)
@@ -478,7 +488,7 @@ module _ (fs : List Frame) (e : Expr) where
   abbrev focus : ℕ
   focus = focusCode (have e)
 
-  is-may : (eqb focus 3 && takes (top (codes fs))) ≡ (isDot e && takesTest fs)
+  is-may : (eqb focus 4 && takes (top (codes fs))) ≡ (isDot e && takesTest fs)
   is-may = rw (focus-dot e, takes-top fs)
 
   inner : (n : ℕ) → leb n 5 ≡ true → leb n 4 ≡ true → top (drop (pops n (codes fs)) (codes fs)) ≡ top (codes (opened n fs))
@@ -498,23 +508,23 @@ module _ (fs : List Frame) (e : Expr) where
   unfolding mayJoin
   and-may = rw (inner 1 refl refl) (takes-top (opened 1 fs))
 
-  plain-may : (o : Op) → logical o ≡ false → ltb focus 5 ≡ mayJoin o fs e
+  plain-may : (o : Op) → logical o ≡ false → ltb 2 focus ≡ mayJoin o fs e
   unfolding mayJoin
   plain-may o h = rw h (focus-path e)
 
   paren-move : mayParen (opened 0 fs) ≡ true
-      → Erases (mv (cond (eqb (top (drop (pops 0 (codes fs)) (codes fs))) 11) 5 (cond (sort 0 (codes fs) (ltb focus 5)) 4 5)) (suc (pops 0 (codes fs))) 13) (codes fs) (parenthesised (opened 0 fs) (closed 0 fs e))
+      → Erases (mv (cond (eqb (top (drop (pops 0 (codes fs)) (codes fs))) 11) 2 (cond (sort 0 (codes fs) (ltb 2 focus)) 3 2)) (suc (pops 0 (codes fs))) 13) (codes fs) (parenthesised (opened 0 fs) (closed 0 fs e))
   paren-move m =
-      subst (λ (b : Bool). Erases (mv (cond (eqb (top (drop (pops 0 (codes fs)) (codes fs))) 11) 5 (cond b 4 5)) (suc (pops 0 (codes fs))) 13) (codes fs) (parenthesised (opened 0 fs) (closed 0 fs e)))
+      subst (λ (b : Bool). Erases (mv (cond (eqb (top (drop (pops 0 (codes fs)) (codes fs))) 11) 2 (cond b 3 2)) (suc (pops 0 (codes fs))) 13) (codes fs) (parenthesised (opened 0 fs) (closed 0 fs e)))
       (closed-sort fs false 0 e refl refl ∙ ap (sort 0 (codes fs)) (sym (focus-path e)))
-      (subst (λ (t : ℕ). Erases (mv (cond (eqb t 11) 5 (cond (isPath (closed 0 fs e)) 4 5)) (suc (pops 0 (codes fs))) 13) (codes fs) (parenthesised (opened 0 fs) (closed 0 fs e)))
+      (subst (λ (t : ℕ). Erases (mv (cond (eqb t 11) 2 (cond (isPath (closed 0 fs e)) 3 2)) (suc (pops 0 (codes fs))) 13) (codes fs) (parenthesised (opened 0 fs) (closed 0 fs e)))
       (sym (inner 0 refl refl))
       (paren-erases (opened 0 fs) (closed 0 fs e) (codes fs) (pops 0 (codes fs)) (isPath (closed 0 fs e)) (opened-codes fs 0 false false refl refl) refl m))
 
   matches-behind : Matches wordTable (haveMay focus (codes fs)) (haveMove focus (codes fs)) (codes fs) 20 (behind fs e)
   unfolding variables axes axisWord wordTable allWords haveMay haveMove slot focusCode codesIn isPath
   matches-behind =
-      rows (isDot e && takesTest fs) (mv 5 0 13) (λ k. ascii " is $" ++ (48 + k) ∷ []) (λ k. state fs (have (is k))) variables (ap (λ (b : Bool). b ∷ b ∷ b ∷ []) is-may) refl refl (λ _. (refl, refl))
+      rows (isDot e && takesTest fs) (mv 2 0 13) (λ k. ascii " is $" ++ (48 + k) ∷ []) (λ k. state fs (have (is k))) variables (ap (λ (b : Bool). b ∷ b ∷ b ∷ []) is-may) refl refl (λ _. (refl, refl))
       (row (focus-dot e) refl (λ _. (refl, refl))
       (row (focus-path e) refl (λ _. (refl, refl))
       (row filter-may refl (filtered-erases (opened 0 fs) (closed 0 fs e) (codes fs) (pops 0 (codes fs)) (opened-codes fs 0 false false refl refl))
@@ -525,7 +535,8 @@ module _ (fs : List Frame) (e : Expr) where
       (row (plain-may intersect refl) refl (λ _. join-erases intersect fs e)
       (row (plain-may except refl) refl (λ _. join-erases except fs e)
       (row (plain-may (slash one) refl) refl (λ _. join-erases (slash one) fs e)
-      none))))))))))
+      (row (focus-node e) refl (λ _. (refl, refl))
+      none)))))))))))
 
 -- the turns of the machine
 
@@ -601,32 +612,26 @@ each-miss m x (k ∷ ks) l b t h =
     go true true u h ih = no-yes h refl
     go true false u h ih = let w = ih h in (w .0, greater-zero (most (rest true) (b ∷ t)) ∙ w .1)
 
-named-focus : (e : Expr) (b : ℕ) → isNamed e ≡ true → focusCode (have (longer e b)) ≡ 2
-unfolding focusCode
-named-focus (star a) b h = no-yes refl h
-named-focus (named a name) b h = refl
-named-focus dot b h = no-yes refl h
-named-focus dots b h = no-yes refl h
-named-focus (variable k) b h = no-yes refl h
-named-focus (bracket e) b h = no-yes refl h
-named-focus (negate e) b h = no-yes refl h
-named-focus (is k) b h = no-yes refl h
-named-focus (filter e t) b h = no-yes refl h
-named-focus (rooted s e) b h = no-yes refl h
-named-focus (join o l r) b h = no-yes refl h
+named-focus : (e : Expr) (p : Bool) (b : ℕ) → fits 6 p e ≡ true → isNamed e ≡ true → focusCode (have (longer e b)) ≡ letterFocus (focusCode (have e)) b
+unfolding focusCode fits
+named-focus e p b h n =
+    by-name (λ (x : Expr). fits 6 p x ≡ true → focusCode (have (longer x b)) ≡ letterFocus (focusCode (have x)) b)
+    (λ a name f. name-more name b (yes-right (elem a axes) (isName name) f))
+    e n h
 
 module _ (fs : List Frame) (e : Expr) (b : ℕ) (t : List ℕ) where
   abbrev scanned : Scan
-  scanned = scanFrom wordTable (haveMay (focusCode (have e)) (codes fs)) (b ∷ t) 20 13 0
+  scanned = scanFrom wordTable (haveMay (focusCode (have e)) (codes fs)) (b ∷ t) 20 14 0
 
-  pub name-goes : isNamed e ≡ true → elem b nameBytes ≡ true → Goes (state fs (have e)) (b ∷ t) 33 (mv 2 0 13) 1
+  pub name-goes : fits 6 (takesTest fs) e ≡ true → isNamed e ≡ true → elem b nameBytes ≡ true
+      → Goes (state fs (have e)) (b ∷ t) 34 (mv (letterFocus (focusCode (have e)) b) 0 13) 1
   unfolding next
-  name-goes n h =
-      goes (state fs (have e)) (state fs (have (longer e b))) (b ∷ t) (b ∷ []) 33 (mv 2 0 13) 1 (inl (refl, n, b, h, refl))
+  name-goes f n h =
+      goes (state fs (have e)) (state fs (have (longer e b))) (b ∷ t) (b ∷ []) 34 (mv (letterFocus (focusCode (have e)) b) 0 13) 1 (inl (refl, n, b, h, refl))
       (each-at (longerChoice fs e) nameBytes (behind fs e) (b ∷ []) (state fs (have (longer e b))) b h (inl (n, refl, refl)))
       refl
       refl
-      (refl, named-focus e b n)
+      (refl, named-focus e (takesTest fs) b f n)
 
   pub have-goes : (j : ℕ) → scanned ≡ Word j → Goes (state fs (have e)) (b ∷ t) j (haveMove (focusCode (have e)) (codes fs) j) (length (slot wordTable j))
   unfolding next
@@ -643,20 +648,20 @@ module _ (fs : List Frame) (e : Expr) (b : ℕ) (t : List ℕ) where
       halts (state fs (have e)) b t p (m .0 ∙ w .0) (w .1 ∙ greater-zero (most (behind fs e) (b ∷ t)) ∙ sym (m .1))
 
 module _ (fs : List Frame) (a b : ℕ) (t : List ℕ) where
-  pub first-goes : elem b nameBytes ≡ true → Goes (state fs (axis a)) (b ∷ t) 33 (mv 2 0 13) 1
-  unfolding next focusCode
+  pub first-goes : elem b nameBytes ≡ true → Goes (state fs (axis a)) (b ∷ t) 34 (mv (letterFocus 1 b) 0 13) 1
+  unfolding next focusCode nameFocus lettersFocus
   first-goes h =
-      goes (state fs (axis a)) (state fs (have (named a (b ∷ [])))) (b ∷ t) (b ∷ []) 33 (mv 2 0 13) 1 (inl (refl, b, h, refl))
-      (each-at (nameChoice fs a) nameBytes (choice true (ascii "*") (state fs (have (star a))) ∷ []) (b ∷ []) (state fs (have (named a (b ∷ [])))) b h (inl (refl, refl, refl)))
+      goes (state fs (axis a)) (state fs (have (named a (b ∷ [])))) (b ∷ t) (b ∷ []) 34 (mv (letterFocus 1 b) 0 13) 1 (inl (refl, b, h, refl))
+      (each-at (nameChoice fs a) nameBytes (choice true (ascii "*") (state fs (have (wildcard a star))) ∷ []) (b ∷ []) (state fs (have (named a (b ∷ [])))) b h (inl (refl, refl, refl)))
       refl
       refl
       (refl, refl)
 
-  pub star-goes : b ≡ 42 → Goes (state fs (axis a)) (b ∷ t) 34 (mv 4 0 13) 1
+  pub star-goes : b ≡ 42 → Goes (state fs (axis a)) (b ∷ t) 35 (mv 3 0 13) 1
   unfolding next focusCode isPath
   star-goes h =
-      goes (state fs (axis a)) (state fs (have (star a))) (b ∷ t) (ascii "*") 34 (mv 4 0 13) 1 (inr (refl, refl))
-      (each-skip (nameChoice fs a) nameBytes (choice true (ascii "*") (state fs (have (star a))) ∷ []) (ascii "*") (state fs (have (star a))) (inl (refl, refl, refl)))
+      goes (state fs (axis a)) (state fs (have (wildcard a star))) (b ∷ t) (ascii "*") 35 (mv 3 0 13) 1 (inr (refl, refl))
+      (each-skip (nameChoice fs a) nameBytes (choice true (ascii "*") (state fs (have (wildcard a star))) ∷ []) (ascii "*") (state fs (have (wildcard a star))) (inl (refl, refl, refl)))
       (ap (λ (k : ℕ). k ∷ []) h)
       refl
       (refl, refl)
@@ -664,7 +669,7 @@ module _ (fs : List Frame) (a b : ℕ) (t : List ℕ) where
   pub axis-halts : elem b nameBytes ≡ false → eqb b 42 ≡ false → Halts (state fs (axis a)) (b ∷ t) 0
   unfolding next hits most common
   axis-halts h n =
-      let m = each-miss true (λ k. state fs (have (named a (k ∷ [])))) nameBytes (choice true (ascii "*") (state fs (have (star a))) ∷ []) b t h in
+      let m = each-miss true (λ k. state fs (have (named a (k ∷ [])))) nameBytes (choice true (ascii "*") (state fs (have (wildcard a star))) ∷ []) b t h in
       halts (state fs (axis a)) b t 0 (m .0 ∙ rw n) (sym (m .1 ∙ rw n))
 
 -- a turn is what the reading does
@@ -679,36 +684,39 @@ Turned s t (Halt p) = Halts s t p
 
 pub past-axis : (e : Expr) → (eqb (focusCode (have e)) 0 ≡ false) × (eqb (focusCode (have e)) 1 ≡ false) × (ltb 1 (focusCode (have e)) ≡ true)
 unfolding focusCode
-past-axis e = go (isNamed e) (isDot e) (isPath e)
+past-axis e = tested (focusCode (have e)) (go (isNamed e) (isDot e) (isPath e))
   where
-    go : (a b c : Bool) → (eqb (cond a 2 (cond b 3 (cond c 4 5))) 0 ≡ false) × (eqb (cond a 2 (cond b 3 (cond c 4 5))) 1 ≡ false) × (ltb 1 (cond a 2 (cond b 3 (cond c 4 5))) ≡ true)
-    go true b c = (refl, refl, refl)
-    go false true c = (refl, refl, refl)
-    go false false true = (refl, refl, refl)
-    go false false false = (refl, refl, refl)
+    tested : (f : ℕ) → 2 ≤ f → (eqb f 0 ≡ false) × (eqb f 1 ≡ false) × (ltb 1 f ≡ true)
+    tested f h = (ne-eqb f 0 (λ q. omega arith), ne-eqb f 1 (λ q. omega arith), lt-ltb 1 f h)
 
-pub turned : (s : State) (b : ℕ) (t : List ℕ) → Turned s (b ∷ t) (turnOf (focusOf s) (gapsOf s) (b ∷ t))
+    go : (n d p : Bool) → 2 ≤ cond n (nameFocus (nameOf e)) (cond d 4 (cond p 3 2))
+    go true d p = let h = name-high (nameOf e) in omega arith
+    go false true p = omega arith
+    go false false true = omega arith
+    go false false false = omega arith
+
+pub turned : (s : State) (c : List ℕ) → After s c → (b : ℕ) (t : List ℕ) → Turned s (b ∷ t) (turnOf (focusOf s) (gapsOf s) (b ∷ t))
 unfolding turnOf
-turned (state fs want) b t = unfold focusCode in go (scanFrom wordTable (wantMay (top (codes fs))) (b ∷ t) 0 20 0) refl
+turned (state fs want) c r b t = unfold focusCode in go (scanFrom wordTable (wantMay (top (codes fs))) (b ∷ t) 0 20 0) refl
   where
     go : (r : Scan) → scanFrom wordTable (wantMay (top (codes fs))) (b ∷ t) 0 20 0 ≡ r → Turned (state fs want) (b ∷ t) (ofScan r (wantMove (top (codes fs))))
     go (Word k) e = want-goes fs (b ∷ t) k e
     go (Stop p) e = want-halts fs t b p e
-turned (state fs (axis a)) b t = unfold focusCode in go (elem b nameBytes) refl (eqb b 42) refl
+turned (state fs (axis a)) c r b t = unfold focusCode in go (elem b nameBytes) refl (eqb b 42) refl
   where
-    go : (n : Bool) → elem b nameBytes ≡ n → (q : Bool) → eqb b 42 ≡ q → Turned (state fs (axis a)) (b ∷ t) (cond n (Go 33 (mv 2 0 13) 1) (cond q (Go 34 (mv 4 0 13) 1) (Halt 0)))
+    go : (n : Bool) → elem b nameBytes ≡ n → (q : Bool) → eqb b 42 ≡ q → Turned (state fs (axis a)) (b ∷ t) (cond n (letterTurn 1 b) (cond q (Go 35 (mv 3 0 13) 1) (Halt 0)))
     go true e q h = first-goes fs a b t e
     go false e true h = star-goes fs a b t (eqb-true b 42 h)
     go false e false h = axis-halts fs a b t e h
-turned (state fs (have e)) b t = rw (past-axis e .0, past-axis e .1, focus-named e) (go (isNamed e) refl (elem b nameBytes) refl)
+turned (state fs (have e)) c r b t = rw (past-axis e .0, past-axis e .1, focus-named e) (go (isNamed e) refl (elem b nameBytes) refl)
   where
-    scan : (isNamed e && elem b nameBytes) ≡ false → (r : Scan) → scanFrom wordTable (haveMay (focusCode (have e)) (codes fs)) (b ∷ t) 20 13 0 ≡ r
+    scan : (isNamed e && elem b nameBytes) ≡ false → (r : Scan) → scanFrom wordTable (haveMay (focusCode (have e)) (codes fs)) (b ∷ t) 20 14 0 ≡ r
         → Turned (state fs (have e)) (b ∷ t) (ofScan r (haveMove (focusCode (have e)) (codes fs)))
     scan n (Word k) h = have-goes fs e b t k h
     scan n (Stop p) h = have-halts fs e b t p n h
 
     go : (m : Bool) → isNamed e ≡ m → (n : Bool) → elem b nameBytes ≡ n
-        → Turned (state fs (have e)) (b ∷ t) (cond (m && n) (Go 33 (mv 2 0 13) 1) (haveTurn (focusCode (have e)) (codes fs) (b ∷ t)))
-    go true p true q = name-goes fs e b t p q
-    go true p false q = scan (rw (p, q)) (scanFrom wordTable (haveMay (focusCode (have e)) (codes fs)) (b ∷ t) 20 13 0) refl
-    go false p n q = scan (rw p) (scanFrom wordTable (haveMay (focusCode (have e)) (codes fs)) (b ∷ t) 20 13 0) refl
+        → Turned (state fs (have e)) (b ∷ t) (cond (m && n) (letterTurn (focusCode (have e)) b) (haveTurn (focusCode (have e)) (codes fs) (b ∷ t)))
+    go true p true q = name-goes fs e b t (r .1) p q
+    go true p false q = scan (rw (p, q)) (scanFrom wordTable (haveMay (focusCode (have e)) (codes fs)) (b ∷ t) 20 14 0) refl
+    go false p n q = scan (rw p) (scanFrom wordTable (haveMay (focusCode (have e)) (codes fs)) (b ∷ t) 20 14 0) refl

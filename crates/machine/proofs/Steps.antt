@@ -3,11 +3,13 @@ use Prim.Native.Nat.{ℕ, zero, suc, _+_, _-_, _≤_, _<_}
 use native.Mathlib.Omega.{arith}
 use native.Mathlib.Nat.{not-suc-le-zero}
 use mathlib.Core.Path.{_≡_, refl, sym, ap, _∙_}
-use mathlib.Core.Bool.{Bool, true, false, not, _&&_, cond}
+use mathlib.Core.Bool.{Bool, true, false, not, _&&_, _||_, cond}
 use mathlib.Core.List.{List, [], _∷_}
 use lib.ListN.{length, drop, getD}
 use lib.Seq.{getD-drop}
 use lib.Dec.{leb, ltb, eqb}
+use borrow.Author.Tests.{eqb-false}
+use Rattle.model.proofs.Booleans.{no-or}
 use Rattle.grammar.specs.Grammar.{elem, nameBytes}
 use Rattle.words.specs.declared.Scan.{Scan}
 use Rattle.words.specs.declared.Scan.the-variants.{Word, Stop}
@@ -15,7 +17,7 @@ use Rattle.machine.specs.declared.Move.{Move}
 use Rattle.machine.specs.declared.Turn.{Turn}
 use Rattle.machine.specs.declared.Turn.the-variants.{Go, Halt}
 use Rattle.words.specs.Words.{common, slot, greater, scanFrom, wordTable}
-use Rattle.machine.specs.Machine.{binds, pops, sort, top, stackOf, wantMay, wantMove, wantTurn, haveFlags, haveMay, haveMove, haveTurn, mv, axisTurn, turnOf, mayEnd}
+use Rattle.machine.specs.Machine.{binds, pops, sort, top, stackOf, wantMay, wantMove, wantTurn, haveFlags, haveMay, haveMove, haveTurn, letterTurn, axisTurn, turnOf, mayEnd}
 
 -- the stack
 
@@ -107,6 +109,10 @@ closes-yes n k g e h = rw (sym e, h)
 pub closes-no : (n k g : ℕ) → g ≡ k → ltb g 9 ≡ false → false ≡ binds n k
 closes-no n k g e h = rw (sym e, h)
 
+-- '()' is the last word
+pub below-33 : (k : ℕ) → (eqb k 23 || eqb k 33) ≡ false → k < 34 → k < 33
+below-33 k h l = let n : k ≡ 33 → ⊥ = eqb-false k 33 (no-or (eqb k 23) (eqb k 33) h .1) in omega arith
+
 -- turns
 
 scan-below : (n : ℕ) (words : List ℕ) (may : List Bool) (t : List ℕ) (lo best k : ℕ) → scanFrom words may t lo n best ≡ Word k → k < lo + n
@@ -120,7 +126,7 @@ scan-below (suc n) words may t lo best k h =
     go true p ih = let e : lo ≡ k = cc in omega arith
     go false p ih = let w = ih p in omega arith
 
-pub word-below : (words : List ℕ) (may : List Bool) (t : List ℕ) (lo hi k : ℕ) (r : Scan) → r ≡ Word k → r ≡ scanFrom words may t lo (hi - lo) 0 → lo ≤ hi → hi ≤ 33 → k < 33
+pub word-below : (words : List ℕ) (may : List Bool) (t : List ℕ) (lo hi k : ℕ) (r : Scan) → r ≡ Word k → r ≡ scanFrom words may t lo (hi - lo) 0 → lo ≤ hi → hi ≤ 34 → k < 34
 word-below words may t lo hi k r e s l h = let w = scan-below (hi - lo) words may t lo 0 k (sym s ∙ e) in omega arith
 
 pub want-word : (ks t : List ℕ) (g k len : ℕ) (may : List Bool) (r : Scan) (m : Move)
@@ -137,15 +143,15 @@ want-stop ks t g p may r e s f h =
     rw z
 
 pub have-word : (f : ℕ) (ks t : List ℕ) (k len : ℕ) (may : List Bool) (r : Scan) (m : Move)
-    → r ≡ Word k → r ≡ scanFrom wordTable may t 20 13 0 → may ≡ haveMay f ks → m ≡ haveMove f ks k → len ≡ length (slot wordTable k) → Go k m len ≡ haveTurn f ks t
+    → r ≡ Word k → r ≡ scanFrom wordTable may t 20 14 0 → may ≡ haveMay f ks → m ≡ haveMove f ks k → len ≡ length (slot wordTable k) → Go k m len ≡ haveTurn f ks t
 have-word f ks t k len may r m e s a q l =
-    let z : scanFrom wordTable (haveMay f ks) t 20 13 0 ≡ Word k = ap (λ (b : List Bool). scanFrom wordTable b t 20 13 0) (sym a) ∙ sym s ∙ e in
+    let z : scanFrom wordTable (haveMay f ks) t 20 14 0 ≡ Word k = ap (λ (b : List Bool). scanFrom wordTable b t 20 14 0) (sym a) ∙ sym s ∙ e in
     rw (z, q, l)
 
 pub have-stop : (f : ℕ) (ks t : List ℕ) (p : ℕ) (may : List Bool) (r : Scan)
-    → r ≡ Stop p → r ≡ scanFrom wordTable may t 20 13 0 → may ≡ haveMay f ks → Halt p ≡ haveTurn f ks t
+    → r ≡ Stop p → r ≡ scanFrom wordTable may t 20 14 0 → may ≡ haveMay f ks → Halt p ≡ haveTurn f ks t
 have-stop f ks t p may r e s a =
-    let z : scanFrom wordTable (haveMay f ks) t 20 13 0 ≡ Stop p = ap (λ (b : List Bool). scanFrom wordTable b t 20 13 0) (sym a) ∙ sym s ∙ e in
+    let z : scanFrom wordTable (haveMay f ks) t 20 14 0 ≡ Stop p = ap (λ (b : List Bool). scanFrom wordTable b t 20 14 0) (sym a) ∙ sym s ∙ e in
     rw z
 
 pub follow : (f o i b p q : ℕ) (ks : List ℕ) (r : List Bool) → r ≡ haveFlags f o i b → o ≡ top ks → i ≡ top (drop p ks) → b ≡ top (drop q ks) → p ≡ pops 0 ks → q ≡ pops 1 ks
@@ -162,6 +168,10 @@ module _ (f : ℕ) (ks text : List ℕ) (at : ℕ) where
   front-byte : getD (drop at text) 0 0 ≡ getD text at 0
   front-byte = getD-drop at text 0 0 ∙ (let e : at + 0 ≡ at = omega arith in ap (λ (i : ℕ). getD text i 0) e)
 
+  -- whether a name goes on
+  goes-on : (n y : Bool) → n ≡ elem (getD text at 0) nameBytes → (ltb 4 f && n) ≡ y → (ltb 4 f && elem (getD (drop at text) 0 0) nameBytes) ≡ y
+  goes-on n y q h = ap (λ (i : ℕ). ltb 4 f && elem i nameBytes) front-byte ∙ ap (λ (b : Bool). ltb 4 f && b) (sym q) ∙ h
+
   pub step-want : (r : Turn) → r ≡ wantTurn ks (drop at text) → eqb f 0 ≡ true → r ≡ turnOf f ks (drop at text)
   unfolding turnOf
   step-want r e h = e ∙ rw h
@@ -170,15 +180,12 @@ module _ (f : ℕ) (ks text : List ℕ) (at : ℕ) where
   unfolding turnOf
   step-axis r e h n = e ∙ rw (n, h, front-byte)
 
-  pub step-name : (n : Bool) → n ≡ elem (getD text at 0) nameBytes → (eqb f 2 && n) ≡ true → eqb f 1 ≡ false → eqb f 0 ≡ false → Go 33 (mv 2 0 13) 1 ≡ turnOf f ks (drop at text)
-  unfolding turnOf
-  step-name n e h a w =
-      let z : (eqb f 2 && elem (getD (drop at text) 0 0) nameBytes) ≡ true = ap (λ (i : ℕ). eqb f 2 && elem i nameBytes) front-byte ∙ ap (λ (b : Bool). eqb f 2 && b) (sym e) ∙ h in
-      rw (w, a, z)
-
-  pub step-have : (r : Turn) (n : Bool) → r ≡ haveTurn f ks (drop at text) → n ≡ elem (getD text at 0) nameBytes → (eqb f 2 && n) ≡ false → eqb f 1 ≡ false → eqb f 0 ≡ false
+  pub step-name : (r : Turn) (n : Bool) → r ≡ letterTurn f (getD text at 0) → n ≡ elem (getD text at 0) nameBytes → (ltb 4 f && n) ≡ true → eqb f 1 ≡ false → eqb f 0 ≡ false
       → r ≡ turnOf f ks (drop at text)
   unfolding turnOf
-  step-have r n e q h a w =
-      let z : (eqb f 2 && elem (getD (drop at text) 0 0) nameBytes) ≡ false = ap (λ (i : ℕ). eqb f 2 && elem i nameBytes) front-byte ∙ ap (λ (b : Bool). eqb f 2 && b) (sym q) ∙ h in
-      e ∙ rw (w, a, z)
+  step-name r n e q h a w = e ∙ rw (w, a, goes-on n true q h, front-byte)
+
+  pub step-have : (r : Turn) (n : Bool) → r ≡ haveTurn f ks (drop at text) → n ≡ elem (getD text at 0) nameBytes → (ltb 4 f && n) ≡ false → eqb f 1 ≡ false → eqb f 0 ≡ false
+      → r ≡ turnOf f ks (drop at text)
+  unfolding turnOf
+  step-have r n e q h a w = e ∙ rw (w, a, goes-on n false q h)

@@ -13,7 +13,7 @@ use Rattle.words.specs.Words.{slot, scanFrom, wordTable}
 use Rattle.grammar.specs.Grammar.{Op, elem, nameBytes}
 use Rattle.grammar.specs.Grammar.Slash.{one, two}
 use Rattle.grammar.specs.Grammar.Op.{or, and, union, intersect, except, slash}
-use Rattle.grammar.specs.Automaton.{Frame, Focus, takesTest, isPath, isDot, isNamed}
+use Rattle.grammar.specs.Automaton.{Frame, Focus, takesTest, isPath, isDot, isNamed, nameOf}
 use Rattle.grammar.specs.Automaton.Frame.{left, lead, paren, negation, test}
 use Rattle.grammar.specs.Automaton.Focus.{want, axis, have}
 
@@ -51,11 +51,27 @@ codesIn run (test e ∷ fs) = 12 ∷ codesIn false fs
 abbrev pub codes : List Frame → List ℕ
 codes fs = codesIn false fs
 
--- the focus: an expression is wanted 0, an axis was read 1; there is a name 2, '.' 3, another path 4, a node expression 5
+-- the focus behind one letter more of a name, where it was f before: the names that "node" begins with, and "node" itself, have 6 to 9
+unfoldable pub letterFocus : ℕ → ℕ → ℕ
+letterFocus f b =
+    cond (eqb f 1 && eqb b 110) 6 (cond (eqb f 6 && eqb b 111) 7 (cond (eqb f 7 && eqb b 100) 8 (cond (eqb f 8 && eqb b 101) 9 5)))
+
+-- behind some letters more
+unfoldable pub lettersFocus : ℕ → List ℕ → ℕ
+lettersFocus f [] = f
+lettersFocus f (b ∷ bs) = lettersFocus (letterFocus f b) bs
+
+-- behind a whole name; none is empty
+unfoldable pub nameFocus : List ℕ → ℕ
+nameFocus [] = 5
+nameFocus (b ∷ bs) = lettersFocus (letterFocus 1 b) bs
+
+-- the focus: an expression is wanted 0, an axis was read 1; there is a node expression 2, a path 3, '.' 4, a name 5, the names "n", "no",
+-- "nod" and "node" 6 to 9
 unfoldable pub focusCode : Focus → ℕ
 focusCode want = 0
 focusCode (axis a) = 1
-focusCode (have e) = cond (isNamed e) 2 (cond (isDot e) 3 (cond (isPath e) 4 5))
+focusCode (have e) = cond (isNamed e) (nameFocus (nameOf e)) (cond (isDot e) 4 (cond (isPath e) 3 2))
 
 -- the innermost gap, or 13
 abbrev pub top : List ℕ → ℕ
@@ -98,7 +114,7 @@ moved m ks = pushed (m .push) (drop (m .pops) ks)
 
 -- which words may come where an expression is wanted
 unfoldable pub wantMay : ℕ → List Bool
-wantMay t = replicate 18 true ++ (takes t ∷ slashes t ∷ replicate 13 false)
+wantMay t = replicate 18 true ++ (takes t ∷ slashes t ∷ replicate 14 false)
 
 -- a slash there: it doubles one, or leads
 abbrev pub slashMove : ℕ → Move
@@ -108,8 +124,8 @@ slashMove t = cond (eqb t 5) (mv 0 1 6) (cond (eqb t 7) (mv 0 0 8) (mv 0 0 7))
 unfoldable pub wantMove : ℕ → ℕ → Move
 wantMove t k =
     cond (ltb k 13) (mv 1 0 13)
-    (cond (ltb k 16) (mv 4 0 13)
-    (cond (eqb k 16) (mv 3 0 13)
+    (cond (ltb k 16) (mv 3 0 13)
+    (cond (eqb k 16) (mv 4 0 13)
     (cond (eqb k 17) (mv 0 0 (cond (takes t) 10 9))
     (cond (eqb k 18) (mv 0 0 11) (slashMove t)))))
 
@@ -118,8 +134,8 @@ wantMove t k =
 abbrev pub haveFlags : ℕ → ℕ → ℕ → ℕ → List Bool
 haveFlags f outer inner both =
     replicate 20 false
-    ++ ((eqb f 3 && takes outer) ∷ (eqb f 3 && takes outer) ∷ (eqb f 3 && takes outer) ∷ eqb f 3 ∷ ltb f 5 ∷ eqb inner 12 ∷ (ltb 8 inner && ltb inner 12)
-    ∷ takes inner ∷ takes both ∷ ltb f 5 ∷ ltb f 5 ∷ ltb f 5 ∷ ltb f 5 ∷ [])
+    ++ ((eqb f 4 && takes outer) ∷ (eqb f 4 && takes outer) ∷ (eqb f 4 && takes outer) ∷ eqb f 4 ∷ ltb 2 f ∷ eqb inner 12 ∷ (ltb 8 inner && ltb inner 12)
+    ∷ takes inner ∷ takes both ∷ ltb 2 f ∷ ltb 2 f ∷ ltb 2 f ∷ ltb 2 f ∷ eqb f 9 ∷ [])
 
 -- the same of the gaps ks
 unfoldable pub haveMay : ℕ → List ℕ → List Bool
@@ -127,12 +143,12 @@ haveMay f ks = haveFlags f (top ks) (top (drop (pops 0 ks) ks)) (top (drop (pops
 
 -- what a bracket is, closed over a path or a node expression
 abbrev pub bracketFocus : ℕ → Bool → ℕ
-bracketFocus inner path = cond (eqb inner 11) 5 (cond path 4 5)
+bracketFocus inner path = cond (eqb inner 11) 2 (cond path 3 2)
 
 -- the step of ']' and ')'
 abbrev pub closeMove : ℕ → List ℕ → ℕ → Move
 closeMove f ks k =
-    cond (eqb k 25) (mv 4 (suc (pops 0 ks)) 13) (mv (bracketFocus (top (drop (pops 0 ks) ks)) (sort 0 ks (ltb f 5))) (suc (pops 0 ks)) 13)
+    cond (eqb k 25) (mv 3 (suc (pops 0 ks)) 13) (mv (bracketFocus (top (drop (pops 0 ks) ks)) (sort 0 ks (ltb 2 f))) (suc (pops 0 ks)) 13)
 
 -- the step of an operator
 abbrev pub joinMove : List ℕ → ℕ → Move
@@ -141,8 +157,8 @@ joinMove ks k = mv 0 (pops (getD (0 ∷ 1 ∷ 2 ∷ 3 ∷ 3 ∷ 5 ∷ []) (k - 2
 -- the step that word k makes behind an expression
 unfoldable pub haveMove : ℕ → List ℕ → ℕ → Move
 haveMove f ks k =
-    cond (ltb k 23) (mv 5 0 13)
-    (cond (eqb k 23) (mv 4 0 13)
+    cond (ltb k 23) (mv 2 0 13)
+    (cond (eqb k 23 || eqb k 33) (mv 3 0 13)
     (cond (eqb k 24) (mv 0 0 12)
     (cond (ltb k 27) (closeMove f ks k) (joinMove ks k))))
 
@@ -160,19 +176,23 @@ ofScan (Stop p) move = Halt p
 abbrev pub wantTurn : List ℕ → List ℕ → Turn
 wantTurn ks t = ofScan (scanFrom wordTable (wantMay (top ks)) t 0 20 0) (wantMove (top ks))
 
--- behind an axis, at byte b: a byte of a name is word 33, the star 34
+-- at byte b of a name: word 34
+abbrev pub letterTurn : ℕ → ℕ → Turn
+letterTurn f b = Go 34 (mv (letterFocus f b) 0 13) 1
+
+-- behind an axis, at byte b: a byte of a name, or the star, word 35
 abbrev pub axisTurn : ℕ → Turn
-axisTurn b = cond (elem b nameBytes) (Go 33 (mv 2 0 13) 1) (cond (eqb b 42) (Go 34 (mv 4 0 13) 1) (Halt 0))
+axisTurn b = cond (elem b nameBytes) (letterTurn 1 b) (cond (eqb b 42) (Go 35 (mv 3 0 13) 1) (Halt 0))
 
 -- behind an expression, where its name goes on no longer
 abbrev pub haveTurn : ℕ → List ℕ → List ℕ → Turn
-haveTurn f ks t = ofScan (scanFrom wordTable (haveMay f ks) t 20 13 0) (haveMove f ks)
+haveTurn f ks t = ofScan (scanFrom wordTable (haveMay f ks) t 20 14 0) (haveMove f ks)
 
 -- a turn of the machine at the front of a text, by the focus
 unfoldable pub turnOf : ℕ → List ℕ → List ℕ → Turn
 turnOf f ks t =
     cond (eqb f 0) (wantTurn ks t)
-    (cond (eqb f 1) (axisTurn (getD t 0 0)) (cond (eqb f 2 && elem (getD t 0 0) nameBytes) (Go 33 (mv 2 0 13) 1) (haveTurn f ks t)))
+    (cond (eqb f 1) (axisTurn (getD t 0 0)) (cond (ltb 4 f && elem (getD t 0 0) nameBytes) (letterTurn f (getD t 0 0)) (haveTurn f ks t)))
 
 -- the text may end: an expression stands there, and all gaps close
 abbrev pub mayEnd : ℕ → List ℕ → Bool

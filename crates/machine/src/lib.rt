@@ -4,7 +4,7 @@ ghost use mathlib.Core.Bool.{cond};
 ghost use lib.Dec.{ltb};
 ghost use Prim.Native.Nat.{_+_, _-_, _*_, _≤_, _<_};
 ghost use lib.ListN.{length, drop, set};
-ghost use Rattle.machine.specs.Machine.{takes, slashes, binds, pops, sort, top, stackOf, wantMay, wantMove, slashMove, haveFlags, haveMay, bracketFocus, closeMove, joinMove, haveMove, wantTurn, axisTurn, haveTurn, turnOf, mayEnd};
+ghost use Rattle.machine.specs.Machine.{takes, slashes, binds, pops, sort, top, stackOf, letterFocus, wantMay, wantMove, slashMove, haveFlags, haveMay, bracketFocus, closeMove, joinMove, haveMove, wantTurn, letterTurn, axisTurn, haveTurn, turnOf, mayEnd};
 
 // A step of the reading: the new focus, how many gaps close, and the gap that opens, or 13 (specs/Machine.antt).
 pub struct Move {
@@ -13,7 +13,7 @@ pub struct Move {
     pub push: u8,
 }
 
-// A turn of the reading: the word that is read, 33 for a byte of a name and 34 for the star behind an axis, the step that it makes
+// A turn of the reading: the word that is read, 34 for a byte of a name and 35 for the star behind an axis, the step that it makes
 // and its length; or how many bytes are read before it stops.
 pub enum Turn {
     Go(usize, Move, usize),
@@ -94,7 +94,7 @@ pub fn innermost(stack: &[u8], depth: usize, closed: usize) -> u8
 }
 
 // Which words may come where an expression is wanted.
-fn want_may(t: u8) -> [bool; 33]
+fn want_may(t: u8) -> [bool; 34]
     ensures { λ r. ⌜ r ≡ wantMay t ⌝ }
 {
     let test = takes_test(t);
@@ -120,6 +120,7 @@ fn want_may(t: u8) -> [bool; 33]
         true,
         test,
         slash,
+        false,
         false,
         false,
         false,
@@ -189,7 +190,7 @@ fn want_move(t: u8, k: usize) -> Move
     let variable = k < 16;
     if variable {
         return Move {
-            focus: 4,
+            focus: 3,
             pops: 0,
             push: 13,
         };
@@ -197,7 +198,7 @@ fn want_move(t: u8, k: usize) -> Move
     let dot = k == 16;
     if dot {
         return Move {
-            focus: 3,
+            focus: 4,
             pops: 0,
             push: 13,
         };
@@ -222,16 +223,17 @@ fn want_move(t: u8, k: usize) -> Move
 }
 
 // Which words may come behind an expression.
-fn have_may(f: u8, outer: u8, inner: u8, both: u8) -> [bool; 33]
+fn have_may(f: u8, outer: u8, inner: u8, both: u8) -> [bool; 34]
     ensures { λ r. ⌜ r ≡ haveFlags f outer inner both ⌝ }
 {
-    let dot = f == 3;
+    let dot = f == 4;
     let is = dot & takes_test(outer);
-    let path = f < 5;
+    let path = 2 < f;
     let filter = inner == 12;
     let bracket = (8 < inner) & (inner < 12);
     let or = takes_test(inner);
     let and = takes_test(both);
+    let node = f == 9;
     [
         false,
         false,
@@ -266,6 +268,7 @@ fn have_may(f: u8, outer: u8, inner: u8, both: u8) -> [bool; 33]
         path,
         path,
         path,
+        node,
     ]
 }
 
@@ -275,12 +278,12 @@ fn bracket_focus(inner: u8, path: bool) -> u8
 {
     let negation = inner == 11;
     if negation {
-        return 5;
+        return 2;
     }
     if path {
-        return 4;
+        return 3;
     }
-    5
+    2
 }
 
 // The step that ']' or ')' makes.
@@ -288,12 +291,12 @@ fn close_move(f: u8, stack: &[u8], depth: usize, k: usize) -> Move
     requires { ⌜ depth ≤ length (now stack) ⌝ }
     ensures { λ r. ⌜ r ≡ closeMove f (stackOf (now (stack .entry)) depth) k ⌝ }
 {
-    let c = close(stack, depth, 0, f < 5);
+    let c = close(stack, depth, 0, 2 < f);
     let pops = c.pops;
     let filter = k == 25;
     if filter {
         return Move {
-            focus: 4,
+            focus: 3,
             pops: pops + 1,
             push: 13,
         };
@@ -322,21 +325,21 @@ fn join_move(stack: &[u8], depth: usize, k: usize) -> Move
 
 // The step that word k makes behind an expression.
 fn have_move(f: u8, stack: &[u8], depth: usize, k: usize) -> Move
-    requires { ⌜ (depth ≤ length (now stack)) × (k < 33) ⌝ }
+    requires { ⌜ (depth ≤ length (now stack)) × (k < 34) ⌝ }
     ensures { λ r. ⌜ r ≡ haveMove f (stackOf (now (stack .entry)) depth) k ⌝ }
 {
     let is = k < 23;
     if is {
         return Move {
-            focus: 5,
+            focus: 2,
             pops: 0,
             push: 13,
         };
     }
-    let dots = k == 23;
-    if dots {
+    let completed = (k == 23) | (k == 33);
+    if completed {
         return Move {
-            focus: 4,
+            focus: 3,
             pops: 0,
             push: 13,
         };
@@ -356,28 +359,58 @@ fn have_move(f: u8, stack: &[u8], depth: usize, k: usize) -> Move
     join_move(stack, depth, k)
 }
 
+// The focus behind one letter more of a name: 6 to 9 behind "n", "no", "nod" and "node", and 5 behind any other.
+fn letter_focus(f: u8, b: u8) -> u8
+    ensures { λ r. ⌜ r ≡ letterFocus f b ⌝ }
+{
+    let n = (f == 1) & (b == 110);
+    if n {
+        return 6;
+    }
+    let o = (f == 6) & (b == 111);
+    if o {
+        return 7;
+    }
+    let d = (f == 7) & (b == 100);
+    if d {
+        return 8;
+    }
+    let e = (f == 8) & (b == 101);
+    if e {
+        return 9;
+    }
+    5
+}
+
+// A turn at a byte of a name.
+fn letter_turn(f: u8, b: u8) -> Turn
+    ensures { λ r. ⌜ r ≡ letterTurn f b ⌝ }
+{
+    Turn::Go(
+        34,
+        Move {
+            focus: letter_focus(f, b),
+            pops: 0,
+            push: 13,
+        },
+        1,
+    )
+}
+
 // A turn where an axis was read.
 fn axis_turn(b: u8) -> Turn
     ensures { λ r. ⌜ r ≡ axisTurn b ⌝ }
 {
     let name = grammar::is_name_byte(b);
     if name {
-        return Turn::Go(
-            33,
-            Move {
-                focus: 2,
-                pops: 0,
-                push: 13,
-            },
-            1,
-        );
+        return letter_turn(1, b);
     }
     let star = b == 42;
     if star {
         return Turn::Go(
-            34,
+            35,
             Move {
-                focus: 4,
+                focus: 3,
                 pops: 0,
                 push: 13,
             },
@@ -401,7 +434,7 @@ fn want_turn(stack: &[u8], depth: usize, text: &[u8], at: usize) -> Turn
 }
 
 // The words that may come behind an expression, by the gaps.
-fn may_follow(f: u8, stack: &[u8], depth: usize) -> [bool; 33]
+fn may_follow(f: u8, stack: &[u8], depth: usize) -> [bool; 34]
     requires { ⌜ depth ≤ length (now stack) ⌝ }
     ensures { λ r. ⌜ r ≡ haveMay f (stackOf (now (stack .entry)) depth) ⌝ }
 {
@@ -419,7 +452,7 @@ fn have_turn(f: u8, stack: &[u8], depth: usize, text: &[u8], at: usize) -> Turn
     ensures { λ r. ⌜ r ≡ haveTurn f (stackOf (now (stack .entry)) depth) (drop at (now (text .entry))) ⌝ }
 {
     let may = may_follow(f, stack, depth);
-    match words::word_at(text, at, may, 20, 33) {
+    match words::word_at(text, at, may, 20, 34) {
         words::Scan::Word(k) => Turn::Go(k, have_move(f, stack, depth, k), words::word_len(k)),
         words::Scan::Stop(p) => Turn::Halt(p),
     }
@@ -439,17 +472,9 @@ pub fn step(f: u8, stack: &[u8], depth: usize, text: &[u8], at: usize) -> Turn
     if after_axis {
         return axis_turn(b);
     }
-    let longer = (f == 2) & grammar::is_name_byte(b);
+    let longer = (4 < f) & grammar::is_name_byte(b);
     if longer {
-        return Turn::Go(
-            33,
-            Move {
-                focus: 2,
-                pops: 0,
-                push: 13,
-            },
-            1,
-        );
+        return letter_turn(f, b);
     }
     have_turn(f, stack, depth, text, at)
 }

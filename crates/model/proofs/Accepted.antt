@@ -5,19 +5,20 @@ use native.Mathlib.Numerals.{sub-one}
 use native.Mathlib.Omega.{arith}
 use mathlib.Core.Path.{_≡_, refl, ap}
 use mathlib.Core.Logic.{⊎-elim}
-use mathlib.Core.Bool.{Bool, true, false, not, _&&_, _||_}
+use mathlib.Core.Bool.{Bool, true, false, not, _&&_, _||_, and-true}
 use mathlib.Core.List.{List}
 use lib.ListN.{length, getD}
 use lib.Dec.{ltb, eqb, eqb·suc-zero}
-use borrow.Author.Tests.{ltb-true, ltb-false, eqb-true, eqb-false, not-false, ne-eqb, eq-eqb}
+use borrow.Author.Tests.{lt-ltb, ltb-true, ltb-false, eqb-true, eqb-false, not-false, ne-eqb, eq-eqb}
 use Rattle.model.specs.Sets.{any, bit}
 use Rattle.model.specs.Tree.{Tree, treeOf, sizeOf}
-use Rattle.model.specs.Axes.{self, ancestor, descendant, following, preceding, descendantOrSelf}
+use Rattle.model.specs.Axes.{self, ancestor, descendant, following, preceding, isDocument, descendantOrSelf}
 use Rattle.model.specs.QueryTable.{entriesOf, kind, left, right, tag, entry, lastOf}
 use Rattle.model.specs.Refusals.{verdict}
-use Rattle.model.specs.Checks.{badParent, treeChecks, leftPath, leftExpr, rightPath, rightExpr, namesVariable, hasLeft, hasRight, badStep, badVariable, badUnnamed, badEntry, queryChecks}
+use Rattle.model.specs.Checks.{badParent, badTag, treeChecks, leftPath, leftExpr, rightPath, rightExpr, namesVariable, hasLeft, hasRight, badStep, badVariable, badUnnamed, badEntry, queryChecks}
 use Rattle.model.specs.Accepted.{Falling, Sound, Ordered, Evaluable}
-use Rattle.model.proofs.Booleans.{or-left, or-right, or-cases, no-or, guarded}
+use Rattle.model.proofs.Booleans.{Seen, seen, no-yes, both-yes, or-left, or-right, or-cases, not-yes, no-or, guarded}
+use Rattle.model.proofs.Booleans.Seen.{yes!, no! }
 use Rattle.model.proofs.Exists.{none-of}
 use Rattle.model.proofs.Axes.{descendant-lower, five-axes}
 use Rattle.model.proofs.Refusals.{Passes, numbered, accepted}
@@ -62,19 +63,28 @@ pub sound-of : (d : Tree) → 0 < d .size → d .size ≤ 256 → any (d .size) 
 sound-of d a b h = record { some-node = a; at-most = b; falls = λ x p l. prefix-falls d x (λ y k. none-of (d .size) (badParent d) y h (omega arith)) .falls x p (omega arith) }
 
 -- and in document order
-pub ordered-of : (d : Tree) → 0 < d .size → d .size ≤ 256 → any (d .size) (badParent d) ≡ false → Ordered d
+pub ordered-of : (d : Tree) → 0 < d .size → d .size ≤ 256 → any (d .size) (badParent d) ≡ false → any (d .size) (badTag d) ≡ false → Ordered d
 unfolding badParent
-ordered-of d a b h = record {
+ordered-of d a b h g = record {
   sound = sound-of d a b h;
   rule = λ y l. rw (sub-one (suc y)) at (not-false (descendantOrSelf d (d .parent (suc y)) (suc y - 1)) (rw (eqb·suc-zero y) at (none-of (d .size) (badParent d) (suc y) h l)));
+  document = λ y p l. not-yes (isDocument d y) (λ q. no-yes (none-of (d .size) (badTag d) y g l) (both-yes (lt-ltb 65533 (d .tag y) (omega (arith, eqb-true (d .tag y) 65534 q))) (or-left (ltb 0 y) (not (isDocument d y)) (lt-ltb 0 y p))));
 }
+
+-- of an accepted tree, each tag is below 65535
+pub tag-below : (d : Tree) (x : ℕ) → badTag d x ≡ false → d .tag x < 65535
+tag-below d x h = go (seen (isDocument d x))
+  where
+    go : Seen (isDocument d x) → d .tag x < 65535
+    go (yes! p) = omega (arith, eqb-true (d .tag x) 65534 p)
+    go (no! p) = omega (arith, ltb-false 65533 (d .tag x) (rw (p, or-right (ltb 0 x) true refl, and-true (ltb 65533 (d .tag x))) at h))
 
 -- an accepted tree is in document order
 pub tree-ordered : (t : List ℕ) → Passes (treeChecks t) → Ordered (treeOf t)
 unfolding treeChecks Passes
 tree-ordered t w =
     let (some, even, most) = length-fits 2 512 (length t) (w .0) in
-    ordered-of (treeOf t) (let a : 0 < length t / 2 = omega arith in a) (let b : length t / 2 ≤ 256 = omega arith in b) (w .1 .0)
+    ordered-of (treeOf t) (let a : 0 < length t / 2 = omega arith in a) (let b : length t / 2 ≤ 256 = omega arith in b) (w .1 .0) (w .1 .1 .0)
 
 -- queries
 
@@ -118,8 +128,7 @@ module _ (q : List ℕ) (least columns : ℕ) (b : Passes (queryChecks q least c
 
     axis-at : kind q e ≡ 0 → left q e ≤ 12
     axis-at h =
-        let w = guarded (eqb (kind q e) 0) (ltb 12 (left q e) || eqb (tag q e) 65534) (fields-at .0) (eq-eqb (kind q e) 0 h) in
-        ltb-false 12 (left q e) (no-or (ltb 12 (left q e)) (eqb (tag q e) 65534) w .0)
+        ltb-false 12 (left q e) (guarded (eqb (kind q e) 0) (ltb 12 (left q e)) (fields-at .0) (eq-eqb (kind q e) 0 h))
 
     pub variable-at : namesVariable (kind q e) ≡ true → left q e < columns
     variable-at p = below (namesVariable (kind q e)) (left q e) columns (no-or (badVariable columns (entry q e)) (badUnnamed (entry q e)) (fields-at .1) .0) p

@@ -1,4 +1,5 @@
 pub mod Booleans
+pub mod Lists
 pub mod Exists
 pub mod Bytes
 pub mod Counts
@@ -11,5 +12,6 @@ pub mod Accepted
 pub mod Made
 pub mod Answers
 pub mod Results
+pub mod Unchanged
 pub mod Starred
 pub mod Replies

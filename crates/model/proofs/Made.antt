@@ -25,9 +25,9 @@ use Rattle.model.proofs.Encoding.{size-some, length-encode, Holds, Stan
 use Rattle.model.proofs.Accepted.{variable-at, query-numbered}
 
 unfoldable mutual
-  -- every step has an axis of document 01, and a name test other than 65534
+  -- every step has an axis of document 01
   pub ProperSteps : Path → Type 0
-  ProperSteps (step a name) = (a < 13) × (name ≡ 65534 → ⊥)
+  ProperSteps (step a name) = a < 13
   ProperSteps (compose p q) = ProperSteps p × ProperSteps q
   ProperSteps (union p q) = ProperSteps p × ProperSteps q
   ProperSteps (intersect p q) = ProperSteps p × ProperSteps q
@@ -110,7 +110,7 @@ mutual
   unfolding pathTerm exprTerm columns ProperSteps ProperStepsIn leftPath leftExpr rightPath rightExpr namesVariable
 
   path-sorted : (c : ℕ) (p : Path) → ProperSteps p → columns (pathTerm p) ≤ c → Sorted c (pathTerm p)
-  path-sorted c (step a name) (h, n) m = none c 0 a name refl (rw (le-ltb 12 a (omega arith), ne-eqb name 65534 n) refl) (λ x y. refl) (refl, refl)
+  path-sorted c (step a name) h m = none c 0 a name refl (rw (le-ltb 12 a (omega arith)) refl) (λ x y. refl) (refl, refl)
   path-sorted c (compose p q) (u, v) m = two c 1 (pathTerm p) (pathTerm q) (λ r. (refl, λ l. refl, rw (path-top p, path-top q) refl)) (refl, refl) (path-sorted c p u (omega arith)) (path-sorted c q v (omega arith))
   path-sorted c (union p q) (u, v) m = two c 2 (pathTerm p) (pathTerm q) (λ r. (refl, λ l. refl, rw (path-top p, path-top q) refl)) (refl, refl) (path-sorted c p u (omega arith)) (path-sorted c q v (omega arith))
   path-sorted c (intersect p q) (u, v) m = two c 3 (pathTerm p) (pathTerm q) (λ r. (refl, λ l. refl, rw (path-top p, path-top q) refl)) (refl, refl) (path-sorted c p u (omega arith)) (path-sorted c q v (omega arith))

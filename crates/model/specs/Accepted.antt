@@ -1,11 +1,11 @@
 -- What the checks secure, in the form in which inner functions ask for it. No service asks for any of this.
 use Prim.Native.Nat.{ℕ, suc, _<_, _≤_}
 use mathlib.Core.Path.{_≡_}
-use mathlib.Core.Bool.{true}
+use mathlib.Core.Bool.{true, false}
 use mathlib.Core.List.{List}
 use lib.ListN.{length, getD}
 use Rattle.model.specs.Tree.{Tree, sizeOf}
-use Rattle.model.specs.Axes.{descendantOrSelf}
+use Rattle.model.specs.Axes.{isDocument, descendantOrSelf}
 use Rattle.model.specs.QueryTable.{entriesOf, kind, left, right}
 use Rattle.model.specs.Checks.{leftPath, leftExpr, rightPath, rightExpr, namesVariable}
 
@@ -23,10 +23,12 @@ pub record Sound (t : Tree) : Type 0 where
   pub at-most : t .size ≤ 256
   pub falls : (x : ℕ) → 0 < x → x < t .size → t .parent x < x
 
--- a sound tree in document order: a node's parent is the node before it, or an ancestor of that node
+-- a sound tree in document order: a node's parent is the node before it, or an ancestor of that node; no node past node 0 is a
+-- document node
 pub record Ordered (t : Tree) : Type 0 where
   pub sound : Sound t
   pub rule : (y : ℕ) → suc y < t .size → descendantOrSelf t (t .parent (suc y)) y ≡ true
+  pub document : (y : ℕ) → 0 < y → y < t .size → isDocument t y ≡ false
 
 -- a query table whose entries can be evaluated under an assignment to nodes of a tree
 pub record Evaluable (t q nodes : List ℕ) : Type 0 where

@@ -90,9 +90,18 @@ axis t a =
     a
     noAxis
 
--- the name test of a step (document 01: its test): 65535 is the star
+-- node y is a document node, which stands above the top element (document 02, §5: tag 65534)
+abbrev pub isDocument : Tree → ℕ → Bool
+isDocument t y = eqb (t .tag y) 65534
+
+-- a name test matches a tag: 65534 is node(), which matches all; 65535 is the star, which matches all but a document node's; any other
+-- matches itself
+abbrev pub matches : ℕ → ℕ → Bool
+matches name tag = eqb name 65534 || ((eqb name 65535 && not (eqb tag 65534)) || eqb tag name)
+
+-- node y passes the name test of a step (document 01: its test)
 unfoldable pub passes : Tree → ℕ → ℕ → Bool
-passes t name y = eqb name 65535 || eqb (t .tag y) name
+passes t name y = matches name (t .tag y)
 
 -- the pairs of a step
 unfoldable pub steps : Tree → ℕ → ℕ → ℕ → ℕ → Bool

@@ -8,7 +8,7 @@ use Rattle.model.specs.declared.Entry.{Entry}
 use Rattle.model.specs.declared.Cursor.{Cursor}
 use Rattle.model.specs.Sets.{bit}
 use Rattle.model.specs.Tree.{Tree, sizeOf, treeOf}
-use Rattle.model.specs.Axes.{descendantOrSelf}
+use Rattle.model.specs.Axes.{isDocument, descendantOrSelf}
 use Rattle.model.specs.QueryTable.{entriesOf, kind, left, right, entry, lastOf}
 use Rattle.model.specs.Pages.{rowOf, hasBegun}
 use Rattle.model.specs.Refusals.{Check, refuse, refuseHere, refuseAt}
@@ -23,9 +23,9 @@ badTreeLength l = eqb l 0 || (not (eqb (l % 2) 0) || ltb 512 l)
 unfoldable pub badParent : Tree → ℕ → Bool
 badParent t x = cond (eqb x 0) (not (eqb (t .parent x) 65535)) (not (descendantOrSelf t (t .parent x) (x - 1)))
 
--- 7: a tag is 65534 or 65535
+-- 7: a tag is above 65533, save that node 0 may be a document node
 abbrev pub badTag : Tree → ℕ → Bool
-badTag t x = ltb 65533 (t .tag x)
+badTag t x = ltb 65533 (t .tag x) && (ltb 0 x || not (isDocument t x))
 
 -- 5 to 7
 unfoldable pub treeChecks : List ℕ → List Check
@@ -78,9 +78,9 @@ badVariableCount least columns = ltb columns least || ltb 3 columns
 abbrev pub badKind : Entry → Bool
 badKind f = ltb 12 (f .kind)
 
--- of 11: an axis above 12, or a step's tag 65534
+-- of 11: an axis above 12; a step may have every tag (document 02, §5)
 abbrev pub badStep : Entry → Bool
-badStep f = eqb (f .kind) 0 && (ltb 12 (f .left) || eqb (f .tag) 65534)
+badStep f = eqb (f .kind) 0 && ltb 12 (f .left)
 
 -- of 11: a variable not below the count
 abbrev pub badVariable : ℕ → Entry → Bool
@@ -90,7 +90,7 @@ badVariable columns f = namesVariable (f .kind) && not (ltb (f .left) columns)
 abbrev pub badUnnamed : Entry → Bool
 badUnnamed f = (not (hasRight (f .kind)) && not (eqb (f .right) 0)) || (not (eqb (f .kind) 0) && not (eqb (f .tag) 0))
 
--- 11: an axis above 12, a step's tag 65534, a variable not below the count, or an unnamed field that is not 0
+-- 11: an axis above 12, a variable not below the count, or an unnamed field that is not 0
 abbrev pub badField : ℕ → Entry → Bool
 badField columns f = badStep f || (badVariable columns f || badUnnamed f)
 

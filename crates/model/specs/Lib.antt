@@ -1,4 +1,5 @@
 pub mod Sets
+pub mod Lists
 pub mod Tree
 pub mod Axes
 pub mod Syntax
@@ -11,6 +12,7 @@ pub mod Refusals
 pub mod Checks
 pub mod Encoding
 pub mod Services
+pub mod Before
 pub mod Warehouse
 pub mod Replies
 pub mod Accepted

@@ -1,4 +1,5 @@
--- The published meaning, over a tree t and an assignment g of nodes to variables (document 01: g(k) is the node in column k).
+-- The published meaning, over a tree and an assignment g of nodes to variables (document 01: g(k) is the node in column k). Of the
+-- tree it takes the number of nodes n and the pairs of a step by its axis and its name test.
 use Prim.Native.Nat.{ℕ}
 use mathlib.Core.Bool.{Bool, not, _&&_, _||_}
 use lib.Dec.{eqb}
@@ -9,23 +10,31 @@ use Rattle.model.specs.Syntax.{Path, NodeExpr}
 use Rattle.model.specs.Syntax.Path.{step, compose, union, intersect, except, filter, variable, fromRoot}
 use Rattle.model.specs.Syntax.NodeExpr.{exists, negate, both, either, is}
 
-module _ (t : Tree) (g : ℕ → ℕ) where
+module _ (n : ℕ) (S : ℕ → ℕ → ℕ → ℕ → Bool) (g : ℕ → ℕ) where
   unfoldable mutual
     -- (x, y) is a pair of the path
-    pub pairs : Path → ℕ → ℕ → Bool
-    pairs (step a name) x y = steps t a name x y
-    pairs (compose p q) x y = any (t .size) (λ z. pairs p x z && pairs q z y)
-    pairs (union p q) x y = pairs p x y || pairs q x y
-    pairs (intersect p q) x y = pairs p x y && pairs q x y
-    pairs (except p q) x y = pairs p x y && not (pairs q x y)
-    pairs (filter p e) x y = pairs p x y && holds e y
-    pairs (variable k) x y = eqb y (g k)
-    pairs (fromRoot p) x y = pairs p 0 y
+    pub pairsOver : Path → ℕ → ℕ → Bool
+    pairsOver (step a name) x y = S a name x y
+    pairsOver (compose p q) x y = any n (λ z. pairsOver p x z && pairsOver q z y)
+    pairsOver (union p q) x y = pairsOver p x y || pairsOver q x y
+    pairsOver (intersect p q) x y = pairsOver p x y && pairsOver q x y
+    pairsOver (except p q) x y = pairsOver p x y && not (pairsOver q x y)
+    pairsOver (filter p e) x y = pairsOver p x y && holdsOver e y
+    pairsOver (variable k) x y = eqb y (g k)
+    pairsOver (fromRoot p) x y = pairsOver p 0 y
 
     -- the node expression holds at x
-    pub holds : NodeExpr → ℕ → Bool
-    holds (exists p) x = any (t .size) (λ y. pairs p x y)
-    holds (negate e) x = not (holds e x)
-    holds (both e f) x = holds e x && holds f x
-    holds (either e f) x = holds e x || holds f x
-    holds (is k) x = eqb x (g k)
+    pub holdsOver : NodeExpr → ℕ → Bool
+    holdsOver (exists p) x = any n (λ y. pairsOver p x y)
+    holdsOver (negate e) x = not (holdsOver e x)
+    holdsOver (both e f) x = holdsOver e x && holdsOver f x
+    holdsOver (either e f) x = holdsOver e x || holdsOver f x
+    holdsOver (is k) x = eqb x (g k)
+
+-- (x, y) is a pair of the path, over the tree t
+abbrev pub pairs : Tree → (ℕ → ℕ) → Path → ℕ → ℕ → Bool
+pairs t g = pairsOver (t .size) (steps t) g
+
+-- the node expression holds at x
+abbrev pub holds : Tree → (ℕ → ℕ) → NodeExpr → ℕ → Bool
+holds t g = holdsOver (t .size) (steps t) g

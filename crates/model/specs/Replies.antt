@@ -39,6 +39,8 @@ roots i (suc m) = 7 ∷ (i - 1) ∷ 0 ∷ 0 ∷ roots (suc i) m
 unfoldable pub calls : List Judged
 calls =
     call (treeChecks (star 255)) 0 0
+    ∷ call (treeChecks (65535 ∷ 65534 ∷ 0 ∷ 65533 ∷ [])) 0 0
+    ∷ call (queryChecks (0 ∷ 1 ∷ 0 ∷ 65534 ∷ []) 0 0) 0 0
     ∷ call (queryChecks (0 ∷ 1 ∷ 0 ∷ 3 ∷ roots 1 63) 0 0) 0 0
     ∷ call (imageChecks [] [] 4 [] [] 0) 5 0
     ∷ call (pageChecks [] [] 4 fresh 0) 5 0
@@ -49,6 +51,7 @@ calls =
     ∷ call (treeChecks (65535 ∷ 1 ∷ 0 ∷ 2 ∷ 0 ∷ 2 ∷ 1 ∷ 3 ∷ [])) 6 3
     ∷ call (treeChecks (65535 ∷ 65534 ∷ 1 ∷ 2 ∷ [])) 6 1
     ∷ call (treeChecks (65535 ∷ 1 ∷ 0 ∷ 65534 ∷ 0 ∷ 65535 ∷ [])) 7 1
+    ∷ call (treeChecks (65535 ∷ 65535 ∷ 0 ∷ 65534 ∷ [])) 7 0
     ∷ call (imageChecks warehouse [] 4 (9 ∷ []) [] 0) 8 0
     ∷ call (queryChecks (0 ∷ 1 ∷ 0 ∷ 3 ∷ 0 ∷ []) 0 0) 8 0
     ∷ call (queryChecks (replicate (4 * 65) 0) 0 0) 8 0
@@ -56,7 +59,6 @@ calls =
     ∷ call (pageChecks warehouse childPallet 0 fresh 1) 9 0
     ∷ call (queryChecks (13 ∷ 0 ∷ 0 ∷ 0 ∷ []) 0 0) 10 0
     ∷ call (queryChecks (0 ∷ 13 ∷ 0 ∷ 3 ∷ []) 0 0) 11 0
-    ∷ call (queryChecks (0 ∷ 1 ∷ 0 ∷ 65534 ∷ []) 0 0) 11 0
     ∷ call (queryChecks (0 ∷ 1 ∷ 1 ∷ 3 ∷ []) 0 0) 11 0
     ∷ call (queryChecks (6 ∷ 0 ∷ 0 ∷ 1 ∷ []) 0 1) 11 0
     ∷ call (queryChecks (selfOrBay 1) 0 0) 11 2

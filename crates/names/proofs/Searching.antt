@@ -8,8 +8,8 @@ use mathlib.Core.List.{List, [], _∷_, _++_, map, map-append, append-nil}
 use lib.ListN.{length, take, drop, getD, length-drop, drop-of-length-le}
 use lib.Seq.{drop-cons, take-all}
 use lib.Dec.{ltb, eqb}
-use borrow.Author.Tests.{eqb-true, eq-eqb, ne-eqb, lt-ltb, le-ltb}
-use Rattle.model.proofs.Booleans.{Seen, yes!, no!, seen, no-yes, yes-left, yes-right, both-yes}
+use borrow.Author.Tests.{eq-eqb, ne-eqb, lt-ltb, le-ltb}
+use Rattle.model.proofs.Booleans.{Seen, yes!, no!, seen, no-yes}
 use Rattle.names.specs.declared.Table.{Table}
 use Rattle.names.specs.declared.Table.the-variants.{House, Site}
 use Rattle.names.specs.declared.Part.{Part}
@@ -17,7 +17,8 @@ use Rattle.names.specs.declared.Hit.{Hit}
 use Rattle.names.specs.declared.Hit.the-variants.{Number, Passed}
 use Rattle.names.specs.declared.Tag.the-variants.{Known, Unknown}
 use Rattle.names.specs.Names.{namesFrom, names, part, byTag, bytes}
-use Rattle.names.specs.Tags.{equal, spelling, spellings, firstFrom, hitFrom, tagOf}
+use Rattle.model.specs.Lists.{equal}
+use Rattle.names.specs.Tags.{spelling, spellings, firstFrom, hitFrom, tagOf}
 use Rattle.names.proofs.Reading.{name-there, no-names}
 
 -- two lists of bytes
@@ -25,18 +26,6 @@ use Rattle.names.proofs.Reading.{name-there, no-names}
 and-no : (a b : Bool) → b ≡ false → (a && b) ≡ false
 and-no true b h = h
 and-no false b h = refl
-
-pub equal-is : (a b : List ℕ) → equal a b ≡ true → a ≡ b
-unfolding equal
-equal-is [] [] h = refl
-equal-is [] (y ∷ b) h = no-yes refl h
-equal-is (x ∷ a) [] h = no-yes refl h
-equal-is (x ∷ a) (y ∷ b) h = ap₂ _∷_ (eqb-true x y (yes-left (eqb x y) (equal a b) h)) (equal-is a b (yes-right (eqb x y) (equal a b) h))
-
-pub equal-own : (a : List ℕ) → equal a a ≡ true
-unfolding equal
-equal-own [] = refl
-equal-own (x ∷ a) = both-yes (eq-eqb x x refl) (equal-own a)
 
 pub other-size : (a b : List ℕ) → (length a ≡ length b → ⊥) → false ≡ equal a b
 unfolding equal

@@ -11,8 +11,9 @@ use Rattle.model.proofs.Booleans.{Seen, yes!, no!, seen, no-yes}
 use Rattle.names.specs.declared.Part.{Part}
 use Rattle.names.specs.declared.Tag.the-variants.{Known, Unknown}
 use Rattle.names.specs.Names.{nothing, byTag}
-use Rattle.names.specs.Tags.{equal, spelling, firstFrom, tagOf}
-use Rattle.names.proofs.Searching.{equal-is, equal-own}
+use Rattle.model.specs.Lists.{equal}
+use Rattle.model.proofs.Lists.{equal-is, equal-own}
+use Rattle.names.specs.Tags.{spelling, firstFrom, tagOf}
 
 -- names as parts p, with the bytes f p
 module _ (f : Part → List ℕ) (name : List ℕ) where

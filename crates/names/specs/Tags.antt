@@ -1,10 +1,11 @@
 -- The tag of a typed name: the lowest tag up to 65533 whose name has the same bytes. Tags count through the house's names first,
 -- then the site's.
 use Prim.Native.Nat.{ℕ, suc}
-use mathlib.Core.Bool.{Bool, true, false, _&&_, cond}
+use mathlib.Core.Bool.{Bool, true, false, cond}
 use mathlib.Core.List.{List, [], _∷_, map}
 use lib.ListN.{take}
-use lib.Dec.{ltb, eqb}
+use lib.Dec.{ltb}
+use Rattle.model.specs.Lists.{equal}
 use Rattle.names.specs.declared.Table.the-variants.{House}
 use Rattle.names.specs.declared.Part.{Part}
 use Rattle.names.specs.declared.Hit.{Hit}
@@ -12,13 +13,6 @@ use Rattle.names.specs.declared.Hit.the-variants.{Number, Passed}
 use Rattle.names.specs.declared.Tag.{Tag}
 use Rattle.names.specs.declared.Tag.the-variants.{Known, Unknown}
 use Rattle.names.specs.Names.{names, byTag, tableOf, bytes}
-
--- two lists are equal, byte for byte
-unfoldable pub equal : List ℕ → List ℕ → Bool
-equal [] [] = true
-equal [] (b ∷ t) = false
-equal (a ∷ s) [] = false
-equal (a ∷ s) (b ∷ t) = eqb a b && equal s t
 
 -- the bytes of a name, from the table that it stands in
 abbrev pub spelling : List ℕ → List ℕ → Part → List ℕ

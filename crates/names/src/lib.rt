@@ -5,7 +5,8 @@ ghost use Prim.Native.Nat.{_≤_, _<_};
 ghost use lib.ListN.{length, take, drop};
 ghost use Rattle.model.specs.Refusals.{verdict};
 ghost use Rattle.names.specs.Names.{malformed, names, byTag, nameTableChecks, nameChecks, partFor, IsPart, found, Decided};
-ghost use Rattle.names.specs.Tags.{equal, spellings, hitFrom, tagOf};
+ghost use Rattle.model.specs.Lists.{equal};
+ghost use Rattle.names.specs.Tags.{spellings, hitFrom, tagOf};
 
 // The two name tables that are lent (document 01: the house's and the site's vocabulary).
 pub enum Table {

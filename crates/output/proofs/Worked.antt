@@ -3,7 +3,7 @@ use mathlib.Core.Path.{_≡_, refl}
 use mathlib.Core.List.{[], _∷_}
 use Rattle.model.specs.Sets.{any}
 use Rattle.model.specs.Axes.{climbs, child, right, followingSibling, descendant, following, preceding, descendantOrSelf, ancestorOrSelf, axis, passes, steps}
-use Rattle.model.specs.Meaning.{pairs, holds}
+use Rattle.model.specs.Meaning.{pairsOver, holdsOver}
 use Rattle.model.specs.QueryTable.{parse, parseOver, grow, parsed, parsedAt}
 use Rattle.model.specs.Results.{assigned, related}
 use Rattle.model.specs.Answers.{satisfied, answers}
@@ -18,7 +18,7 @@ use Rattle.output.specs.Output.{treeIn, queryIn, columnsIn, jobChecks, j
 -- the teaching job: 1 2, 1 3, 4 5, end 3, a line each
 pub teaching-output : outputOf teaching
     ≡ 49 ∷ 32 ∷ 50 ∷ 10 ∷ 49 ∷ 32 ∷ 51 ∷ 10 ∷ 52 ∷ 32 ∷ 53 ∷ 10 ∷ 101 ∷ 110 ∷ 100 ∷ 32 ∷ 51 ∷ 10 ∷ []
-unfolding outputOf jobVerdict jobChecks answersIn treeIn queryIn columnsIn teaching bytes warehouse bayAndPallet jobOf fileChecks partChecks outside overlap numbers numberAt treeChecks queryChecks badParent badEntry uses leftPath leftExpr rightPath rightExpr namesVariable lowest verdict answers satisfied related assigned parsedAt parsed grow parseOver parse pairs holds steps passes axis child right followingSibling descendant following preceding descendantOrSelf ancestorOrSelf climbs any rowLine endLine refusedLine field decimal digits
+unfolding outputOf jobVerdict jobChecks answersIn treeIn queryIn columnsIn teaching bytes warehouse bayAndPallet jobOf fileChecks partChecks outside overlap numbers numberAt treeChecks queryChecks badParent badEntry uses leftPath leftExpr rightPath rightExpr namesVariable lowest verdict answers satisfied related assigned parsedAt parsed grow parseOver parse pairsOver holdsOver steps passes axis child right followingSibling descendant following preceding descendantOrSelf ancestorOrSelf climbs any rowLine endLine refusedLine field decimal digits
 teaching-output = refl
 
 -- no bytes: refused 1 0

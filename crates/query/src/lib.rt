@@ -115,12 +115,12 @@ fn is_bad_kind(f: model::Entry) -> bool
     12 < f.kind
 }
 
-// 11: an axis or a variable is out of range, a step's tag is 65534, or an unnamed field is not 0.
+// 11: an axis or a variable is out of range, or an unnamed field is not 0.
 fn is_bad_field(columns: usize, f: model::Entry) -> bool
     ensures { λ r. ⌜ r ≡ badField columns f ⌝ }
 {
     let k = f.kind;
-    ((k == 0) & ((12 < f.left) | (f.tag == 65534)))
+    ((k == 0) & (12 < f.left))
         | ((names_variable(k) & !(f.left < columns))
             | ((!has_right(k) & (f.right != 0)) | ((k != 0) & (f.tag != 0))))
 }

@@ -5,9 +5,9 @@ use mathlib.Core.Path.{_≡_, refl, sym, ap, _∙_, subst}
 use mathlib.Core.Bool.{Bool, true, false, not, _&&_, _||_, cond}
 use mathlib.Core.List.{List, [], _∷_, _++_, append-nil}
 use lib.ListN.{take, drop}
-use lib.Dec.{eqb}
+use lib.Dec.{ltb, eqb}
 use Rattle.model.proofs.Booleans.{no-yes}
-use Rattle.grammar.specs.Grammar.Expr.{star, named, dot, dots, variable, bracket, negate, is, filter, rooted, join}
+use Rattle.grammar.specs.Grammar.Expr.{wildcard, named, dot, dots, variable, bracket, negate, is, filter, rooted, join}
 use Rattle.grammar.specs.Automaton.{State}
 use Rattle.grammar.specs.Automaton.Focus.{want, axis, have}
 use Rattle.grammar.specs.Automaton.State.{state}
@@ -24,7 +24,7 @@ use Rattle.reader.specs.Read.{tagIn, anyUnknown, unknownPlace}
 use Rattle.reader.specs.Turns.{soughtName, soughtAt}
 
 -- the focus tells whether a name is being read, and whether an axis was
-pub in-name : (s : State) → eqb (focusOf s) 2 ≡ inName s
+pub in-name : (s : State) → ltb 4 (focusOf s) ≡ inName s
 unfolding focusCode
 in-name (state fs want) = refl
 in-name (state fs (axis a)) = refl
@@ -108,7 +108,7 @@ module _ (house site : List ℕ) where
   untagged : (s : State) (g : ℕ) → inName s ≡ false → Tagged (tagIn house site) s g
   untagged (state fs want) g h = tt
   untagged (state fs (axis a)) g h = tt
-  untagged (state fs (have (star a))) g h = tt
+  untagged (state fs (have (wildcard a w))) g h = tt
   untagged (state fs (have (named a name))) g h = no-yes h refl
   untagged (state fs (have dot)) g h = tt
   untagged (state fs (have dots)) g h = tt
@@ -128,7 +128,7 @@ module _ (house site : List ℕ) where
   unfolding pendingName namesIn
   tagged-name (state fs want) p name i h = no-yes refl i
   tagged-name (state fs (axis a)) p name i h = no-yes refl i
-  tagged-name (state fs (have (star a))) p name i h = tt
+  tagged-name (state fs (have (wildcard a w))) p name i h = tt
   tagged-name (state fs (have (named a b))) p name i h = ap (tagIn house site) (sym (ap firstName h))
   tagged-name (state fs (have dot)) p name i h = tt
   tagged-name (state fs (have dots)) p name i h = tt
@@ -144,7 +144,7 @@ module _ (house site : List ℕ) where
   pub some-tag : (s : State) → (g : ℕ) × Tagged (tagIn house site) s g
   some-tag (state fs want) = (0, tt)
   some-tag (state fs (axis a)) = (0, tt)
-  some-tag (state fs (have (star a))) = (0, tt)
+  some-tag (state fs (have (wildcard a w))) = (0, tt)
   some-tag (state fs (have (named a b))) = (tagIn house site b, refl)
   some-tag (state fs (have dot)) = (0, tt)
   some-tag (state fs (have dots)) = (0, tt)
@@ -165,12 +165,12 @@ module _ (house site : List ℕ) where
   abbrev one-name : ℕ → List ℕ → List TypedName
   one-name p l = record { place = p; name = l } ∷ []
 
-  nothing-sought : (text : List ℕ) (p : Progress) (ended : Bool) → (eqb (p .focus) 2 && ended) ≡ false
+  nothing-sought : (text : List ℕ) (p : Progress) (ended : Bool) → (ltb 4 (p .focus) && ended) ≡ false
       → soughtAt text house site p ended ≡ record { tag = 0; unknown = p .unknown; place = p .place }
   unfolding soughtAt
   nothing-sought text p ended h = rw h
 
-  name-sought : (text : List ℕ) (p : Progress) → eqb (p .focus) 2 ≡ true
+  name-sought : (text : List ℕ) (p : Progress) → ltb 4 (p .focus) ≡ true
       → soughtAt text house site p true ≡ soughtName (tagOf house site (take (p .at - p .start) (drop (p .start) text))) p
   unfolding soughtAt
   name-sought text p h = rw h
@@ -179,12 +179,12 @@ module _ (house site : List ℕ) where
       → p .unknown ≡ anyUnknown house site (finished s) → p .place ≡ unknownPlace house site (finished s) → Ends text s p
   ends-here text s p af f b u q = go (inName s) refl
     where
-      named-here : eqb (p .focus) 2 ≡ inName s
-      named-here = ap (λ (n : ℕ). eqb n 2) (sym f) ∙ in-name s
+      named-here : ltb 4 (p .focus) ≡ inName s
+      named-here = ap (λ (n : ℕ). ltb 4 n) (sym f) ∙ in-name s
 
       go : (i : Bool) → inName s ≡ i → Ends text s p
       go false i =
-          let h : (eqb (p .focus) 2 && true) ≡ false = ap (λ (v : Bool). v && true) (named-here ∙ i) in
+          let h : (ltb 4 (p .focus) && true) ≡ false = ap (λ (v : Bool). v && true) (named-here ∙ i) in
           let e = nothing-sought text p true h in
           let n : finished s ≡ finished s ++ pendingName s = sym (ap (λ (l : List TypedName). finished s ++ l) (pending-none s i) ∙ append-nil (finished s)) in
           record {
@@ -205,9 +205,9 @@ module _ (house site : List ℕ) where
             place = ap (λ (x : Sought). x .place) e ∙ next-place (finished s) typed (p .unknown) (p .place) u q ∙ ap (unknownPlace house site) m;
           }
 
-  -- a name that goes on
+  -- no name ends
   pub goes-on : (text : List ℕ) (p : Progress) → soughtAt text house site p false ≡ record { tag = 0; unknown = p .unknown; place = p .place }
-  goes-on text p = nothing-sought text p false (and-false (eqb (p .focus) 2))
+  goes-on text p = nothing-sought text p false (and-false (ltb 4 (p .focus)))
     where
       and-false : (b : Bool) → (b && false) ≡ false
       and-false true = refl
@@ -216,7 +216,7 @@ module _ (house site : List ℕ) where
   -- the place of a name without a tag is one that has been passed
   pub place-most : (text : List ℕ) (p : Progress) (ended : Bool) → p .place ≤ p .at → p .start ≤ p .at → soughtAt text house site p ended .place ≤ p .at
   unfolding soughtAt
-  place-most text p ended h l = go (eqb (p .focus) 2 && ended) (p .unknown || isKnown (tagOf house site (take (p .at - p .start) (drop (p .start) text))))
+  place-most text p ended h l = go (ltb 4 (p .focus) && ended) (p .unknown || isKnown (tagOf house site (take (p .at - p .start) (drop (p .start) text))))
     where
       go : (b c : Bool) → cond {A = Sought} b (record { tag = tagNumber (tagOf house site (take (p .at - p .start) (drop (p .start) text))); unknown = p .unknown || not (isKnown (tagOf house site (take (p .at - p .start) (drop (p .start) text)))); place = cond c (p .place) (p .start) }) (record { tag = 0; unknown = p .unknown; place = p .place }) .place ≤ p .at
       go true true = h

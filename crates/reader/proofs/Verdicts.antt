@@ -16,14 +16,10 @@ use Rattle.model.proofs.Booleans.{no-yes, no-or}
 use Rattle.model.proofs.Encoding.{length-encode}
 use Rattle.model.proofs.Refusals.{numbered, stop, pass, stop-all, pass-all, passed, written-not, written-over}
 use Rattle.names.specs.Names.{nameTableChecks}
-use Rattle.names.specs.Tags.{tagOf, tagNumber}
-use Rattle.names.proofs.Tags.{tag-names}
-use Rattle.names.specs.declared.Tag.{Tag}
-use Rattle.names.specs.declared.Tag.the-variants.{Known, Unknown}
 use Rattle.grammar.specs.Grammar.{Expr, fits}
 use Rattle.grammar.specs.Automaton.{readable, stopsAt}
 use Rattle.grammar.specs.Typed.{namesIn}
-use Rattle.grammar.proofs.Passing.{Tagged, tagged-all, columns-few}
+use Rattle.grammar.proofs.Passing.{columns-few}
 use Rattle.grammar.proofs.Theorems.{readable-grammatical, read-reading}
 use Rattle.reader.specs.declared.Reading.{Reading}
 use Rattle.reader.specs.Read.{expression, typed, tagIn, queryOf, entriesIn, anyUnknown, unknownPlace, badLength, textChecks, madeChecks, readChecks, readReply, refusal, Leaves, TableLeaves, ReadLeaves}
@@ -44,14 +40,6 @@ all-pass r room v e a b c d =
     go false false true d p q s t = no-yes s refl
     go false false false true p q s t = no-yes t refl
 
--- a tag is at most 65533
-tag-most : (house site name : List ℕ) → tagIn house site name ≤ 65533
-tag-most house site name = go (tagOf house site name) refl
-  where
-    go : (t : Tag) → tagOf house site name ≡ t → tagNumber t ≤ 65533
-    go (Known t) e = tag-names house site name t e .0
-    go Unknown e = omega arith
-
 module _ (text house site : List ℕ) where
   -- what is read of a readable text fits the grammar
   pub typed-fits : readable text ≡ true → fits 0 false (typed text) ≡ true
@@ -60,12 +48,9 @@ module _ (text house site : List ℕ) where
       let g = readable-grammatical text y in
       subst (λ (e : Expr). fits 0 false e ≡ true) (sym (ap expression (read-reading text g))) (g .sound)
 
-  pub all-tagged : (p : ℕ) → Tagged (tagIn house site) (namesIn p (typed text))
-  all-tagged p = tagged-all (tagIn house site) (λ name h. let l = tag-most house site name in omega arith) (namesIn p (typed text))
-
   pub few-columns : readable text ≡ true → columnsOf (queryOf text house site) ≤ 3
   unfolding queryOf
-  few-columns y = columns-few (typed text) (typed-fits y) (tagIn house site) 0 (all-tagged 0)
+  few-columns y = columns-few (typed text) (typed-fits y) (tagIn house site)
 
   module _ (r : Reading) (table : List ℕ) (w : ReadsTo text house site r table) (room : ℕ) where
     abbrev due : List Check

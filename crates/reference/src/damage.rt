@@ -12,6 +12,14 @@ fn reply(number: usize, place: usize) -> model::Reply {
     }
 }
 
+// A tag that node x may not have: 65535, or past node 0 also that of a document node.
+fn reserved(seed: &mut u64, x: usize) -> usize {
+    if x == 0 {
+        return 65535;
+    }
+    random::between(seed, evaluator::DOCUMENT, 65535)
+}
+
 // A tree ends within a node, a node is its own parent, or its tag is reserved.
 pub fn in_tree(seed: &mut u64, tree: &mut table::Table) -> model::Reply {
     let x = random::below(seed, table::size(tree));
@@ -26,7 +34,7 @@ pub fn in_tree(seed: &mut u64, tree: &mut table::Table) -> model::Reply {
         table::put(tree, parent, x);
         return reply(6, x);
     }
-    table::put(tree, tag, random::between(seed, 65534, 65535));
+    table::put(tree, tag, reserved(seed, x));
     reply(7, x)
 }
 
@@ -38,7 +46,15 @@ fn too_high(kind: usize) -> usize {
     12
 }
 
-// A query ends within entry e, or a field of that entry is at fault.
+// Which number of an entry must be 0: of a step the third, and of every other kind the fourth.
+fn unnamed(kind: usize) -> usize {
+    if kind == 0 {
+        return 2;
+    }
+    3
+}
+
+// A query ends within entry e, or a field of that entry is at fault: its kind, one that must be 0, or the left one.
 fn in_entry(query: &mut table::Table, e: usize, fault: usize) -> model::Reply {
     let at = table::times(4, e);
     if fault == 0 {
@@ -49,11 +65,15 @@ fn in_entry(query: &mut table::Table, e: usize, fault: usize) -> model::Reply {
         table::put(query, at, 13);
         return reply(10, e);
     }
+    let kind = table::at(table::numbers(query), at);
     if fault == 2 {
-        table::put(query, std::num::wrapping_add_usize(at, 3), 65534);
+        table::put(
+            query,
+            std::num::wrapping_add_usize(at, unnamed(kind)),
+            65534,
+        );
         return reply(11, e);
     }
-    let kind = table::at(table::numbers(query), at);
     table::put(query, std::num::wrapping_add_usize(at, 1), 64);
     reply(too_high(kind), e)
 }
@@ -62,7 +82,7 @@ fn in_entry(query: &mut table::Table, e: usize, fault: usize) -> model::Reply {
 fn at_end(query: &mut table::Table, last: usize, fault: usize) -> model::Reply {
     let end = std::num::wrapping_add_usize(last, 1);
     if fault == 4 {
-        random::append(query, random::entry(0, 0, 0, 65535));
+        random::append(query, random::entry(0, 0, 0, evaluator::STAR));
         return reply(14, last);
     }
     if fault == 5 {

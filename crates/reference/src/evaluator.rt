@@ -1,6 +1,15 @@
 // For each entry of a query the table of all its pairs, each pair by its definition from the tables of the operands. A node
 // expression is the pairs (x, x) of the nodes x where it holds. A query of e entries over n nodes costs at most e × n × n × n.
+use super::indexing;
 use harness::table;
+
+// The tag of a document node, which only node 0 may have.
+pub const DOCUMENT: usize = 65534;
+
+// The name tests that are no tags: `node()`, and the star.
+pub const ANY_NODE: usize = 65534;
+
+pub const STAR: usize = 65535;
 
 // For each of 64 entries, the pairs (x, y) of 256 nodes.
 pub type Pairs = [u8; 4194304];
@@ -143,9 +152,21 @@ fn on_axis(tree: &[u16], axis: usize, x: usize, y: usize) -> bool {
     is_descendant(tree, y, x)
 }
 
-fn is_step(tree: &[u16], axis: usize, tag: usize, x: usize, y: usize) -> bool {
-    let own = std::num::wrapping_add_usize(std::num::wrapping_add_usize(y, y), 1);
-    if (tag == 65535) | (table::at(tree, own) == tag) {
+// A node with a tag passes a name test: `node()` passes every node, the star all but a document node, and a tag the nodes that
+// have it.
+fn passes(test: usize, tag: usize) -> bool {
+    if test == ANY_NODE {
+        return true;
+    }
+    if test == STAR {
+        return tag != DOCUMENT;
+    }
+    tag == test
+}
+
+// The pair (x, y) is in a step with an axis and a name test.
+fn is_step(tree: &[u16], axis: usize, test: usize, x: usize, y: usize) -> bool {
+    if passes(test, indexing::tag_of(tree, y)) {
         return on_axis(tree, axis, x, y);
     }
     false

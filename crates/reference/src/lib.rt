@@ -1,7 +1,8 @@
-// The test program's own evaluator, written separately from the engine, straight from document 01: pairs, images, answers, and
-// the pages that are due; the index of a tree and what is found by one, from document 02; the random trees, queries and sets that
-// the engine is tried on; and what is refused instead of them.
+// The test program's own evaluator, written separately from the engine, straight from document 01 and, for the document node,
+// document 02: pairs, images, answers, and the pages that are due; the index of a tree and what is found by one, from document 02;
+// the random trees, queries and sets that the engine is tried on; and what is refused instead of them.
 pub mod damage;
+pub mod document;
 pub mod evaluator;
 pub mod index_damage;
 pub mod indexing;

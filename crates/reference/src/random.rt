@@ -1,4 +1,5 @@
 // Trees, queries, assignments and node sets from a seed. Each is accepted by the way it is made.
+use super::evaluator;
 use harness::line;
 use harness::table;
 
@@ -74,6 +75,13 @@ pub fn make_tree(seed: &mut u64, tree: &mut table::Table, n: usize) {
     while x < n {
         put_node(seed, tree, x, steps);
         x += 1;
+    }
+}
+
+// In one tree of four, node 0 becomes a document node.
+pub fn maybe_document(seed: &mut u64, tree: &mut table::Table) {
+    if below(seed, 4) == 0 {
+        table::put(tree, 1, evaluator::DOCUMENT);
     }
 }
 
@@ -202,13 +210,22 @@ fn take(seed: &mut u64, free: &mut [u8; 64], sort: u8) -> usize {
     e
 }
 
-// A step along any axis, more often with the star than with a tag.
+// The star, half as often `node()`, and as often a tag.
+fn name_test(seed: &mut u64) -> usize {
+    let form = below(seed, 4);
+    if form == 0 {
+        return tag(seed);
+    }
+    if form == 1 {
+        return evaluator::ANY_NODE;
+    }
+    evaluator::STAR
+}
+
+// A step along any axis.
 pub fn step(seed: &mut u64) -> model::Entry {
     let axis = below(seed, 13);
-    if 0 < below(seed, 4) {
-        return entry(0, axis, 0, 65535);
-    }
-    entry(0, axis, 0, tag(seed))
+    entry(0, axis, 0, name_test(seed))
 }
 
 // An entry with no operands: of kind 6 or 12, if asked for and there is a variable, else a step.
@@ -325,6 +342,7 @@ pub fn make_both(
     let grown = between(seed, 1, line::number(line, 1, 2));
     let variables = columns(seed, line);
     make_tree(seed, tree, n);
+    maybe_document(seed, tree);
     make_query(seed, query, grown, variables);
     variables
 }

@@ -1,4 +1,5 @@
-// Trees by their tags: few of them, one, all different, or any.
+// Trees by their tags: few of them, one, all different, or any; and a document node in some.
+use super::evaluator;
 use super::indexing;
 use super::random;
 use harness::line;
@@ -74,6 +75,7 @@ pub fn make(seed: &mut u64, line: &line::Line, tree: &mut table::Table) {
         retag(seed, tree, form);
         shuffle(seed, tree);
     }
+    random::maybe_document(seed, tree);
 }
 
 // What to look for: the node where a search starts, and the tag.
@@ -82,11 +84,11 @@ pub struct Aim {
     pub tag: usize,
 }
 
-// The tag of a node; now and then any, or a reserved one, which no node has.
+// The tag of a node; now and then any, or one of the two that no descendant has: a document node's, and 65535.
 fn wanted(seed: &mut u64, tree: &[u16], x: usize) -> usize {
     let form = random::below(seed, 12);
     if form == 0 {
-        return random::between(seed, 65534, 65535);
+        return random::between(seed, evaluator::DOCUMENT, 65535);
     }
     if form == 1 {
         return any_tag(seed);

@@ -2,21 +2,24 @@
 use Prim.Native.Nat.{ℕ, zero, suc, _+_, _/_, _%_, _≤_, _<_}
 use native.Mathlib.Omega.{arith}
 use mathlib.Core.Path.{_≡_, refl, sym, ap, _∙_}
-use mathlib.Core.Bool.{Bool, true, false, not, _&&_, and-comm}
+use mathlib.Core.Logic.{⊎-elim}
+use mathlib.Core.Bool.{Bool, true, false, not, _&&_, _||_, and-comm}
 use mathlib.Core.List.{List, [], _∷_}
 use lib.ListN.{getD}
-use lib.Dec.{eqb}
-use borrow.Author.Tests.{eq-eqb, ne-eqb}
-use Rattle.model.specs.Sets.{any, tab, memb, upto, turn, image}
+use lib.Dec.{ltb, eqb}
+use borrow.Author.Tests.{eq-eqb, ne-eqb, ltb-true, ltb-false, not-true}
+use Rattle.model.specs.Sets.{any, bit, tab, memb, upto, turn, image}
 use Rattle.model.specs.Tree.{Tree, treeOf, sizeOf}
-use Rattle.model.specs.Axes.{noAxis, following, followingSibling, axis, passes, steps}
-use Rattle.model.proofs.Booleans.{bool-ext, both-yes, yes-left, yes-right}
+use Rattle.model.specs.Axes.{isDocument, noAxis, following, followingSibling, axis, matches, passes, steps}
+use Rattle.model.specs.Accepted.{Ordered}
+use Rattle.model.proofs.Booleans.{Seen, seen, bool-ext, both-yes, yes-left, yes-right, or-left, or-right, or-cases, lt-or-le}
+use Rattle.model.proofs.Booleans.Seen.{yes!, no! }
 use Rattle.model.proofs.Exists.{any-intro, any-elim, any-cong, any-one}
 use Rattle.model.proofs.Axes.{eqb-comm}
 use Rattle.sets.specs.NodeSets.{always, combination}
 use Rattle.sets.proofs.Images.{upto-cong, trim-upto, image-cong, image-turned, image-compose, image-or, image-keep, image-kept}
 use Rattle.tree.specs.Links.{links}
-use Rattle.steps.specs.Moves.{hop, plus, star, forward, Linked}
+use Rattle.steps.specs.Moves.{hop, plus, star, forward, passesAll, Linked}
 use Rattle.steps.proofs.Closure.{star-lower}
 use Rattle.steps.proofs.Axes.{child-hop, right-hop, descendant-plus, descendant-star, sibling-plus, following-of, following-is, axis-turn}
 
@@ -131,6 +134,19 @@ module _ (t : Tree) (n a : ℕ) (back : Bool) (S : ℕ → Bool) (r : List ℕ) 
   pub axis-straight : r ≡ tab 256 (image n (turn back (forward t ((a + 1) / 2))) S) → (a % 2 ≡ 0 → ⊥) → r ≡ tab 256 (image n (turn back (axis t a)) S)
   axis-straight e z = axis-by (e ∙ rw (ne-eqb (a % 2) 0 z))
 
+-- numbers of 16 bits are compared as such
+pub same-tag : (name g : ℕ) → g < 65536 → (ltb name 65536 && eqb g (name % 65536)) ≡ eqb g name
+same-tag name g l = go (seen (ltb name 65536))
+  where
+    go : Seen (ltb name 65536) → (ltb name 65536 && eqb g (name % 65536)) ≡ eqb g name
+    go (yes! p) = let m : name % 65536 ≡ name = let k = ltb-true name 65536 p in omega arith in rw (p, m)
+    go (no! p) = rw p (sym (ne-eqb g name (λ q. let k = ltb-false name 65536 p in absurd (omega arith))))
+
+-- a node passes by its tag
+pub named-byte : (t : Tree) (name y g v : ℕ) (b : Bool) → v ≡ bit b → b ≡ matches name g → g ≡ t .tag y → v ≡ bit (passes t name y)
+unfolding passes
+named-byte t name y g v b p q e = p ∙ ap bit (q ∙ ap (matches name) e)
+
 -- a step is an axis and a name test
 
 module _ (t : Tree) (n a name : ℕ) (l : n ≤ 256) (f : List ℕ) (g : f ≡ tab 256 (upto n (passes t name))) where
@@ -142,8 +158,25 @@ module _ (t : Tree) (n a name : ℕ) (l : n ≤ 256) (f : List ℕ) (g : f ≡ t
   unfolding steps
   step-back s m o p e = p ∙ rw (e, g) (image-kept n l (λ x y. axis t a y x) (passes t name) s)
 
--- the star cuts nothing
-pub step-star : (t : Tree) (n a name : ℕ) (back : Bool) (S : ℕ → Bool) (o : List ℕ) → n ≤ 256 → o ≡ tab 256 (image n (turn back (axis t a)) S) → name ≡ 65535
-    → o ≡ tab 256 (image n (turn back (steps t a name)) S)
-unfolding steps passes
-step-star t n a name back S o l p e = p ∙ image-turned n l back (axis t a) (steps t a name) S (λ x y lx ly. rw e (sym (and-comm (axis t a x y) true)))
+-- an accepted tree has a node
+pub some-nodes : (t prev : List ℕ) → Linked t prev → 0 < sizeOf t
+some-nodes t prev k = k .tree .sound .some-node
+
+-- where node 0 is no document node, no node is one
+passes-each : (t : Tree) → Ordered t → (name y : ℕ) → y < t .size → passesAll t name ≡ true → passes t name y ≡ true
+unfolding passes
+passes-each t o name y l h =
+    ⊎-elim (λ p. or-left (eqb name 65534) _ p)
+    (λ p. or-right (eqb name 65534) _ (or-left (eqb name 65535 && not (isDocument t y)) _ (both-yes (yes-left (eqb name 65535) (not (isDocument t 0)) p) (rw (element (yes-right (eqb name 65535) (not (isDocument t 0)) p))))))
+    (or-cases (eqb name 65534) (eqb name 65535 && not (isDocument t 0)) h)
+  where
+    element : not (isDocument t 0) ≡ true → isDocument t y ≡ false
+    element p = ⊎-elim (λ k. o .document y k l) (λ k. let e : y ≡ 0 = omega arith in rw e (not-true (isDocument t 0) p)) (lt-or-le 0 y)
+
+-- a step whose test every node passes cuts nothing
+pub step-whole : (t prev : List ℕ) (a name : ℕ) (back : Bool) (S : ℕ → Bool) (all : Bool) (o : List ℕ) → o ≡ tab 256 (image (sizeOf t) (turn back (axis (treeOf t) a)) S)
+    → all ≡ passesAll (treeOf t) name → all ≡ true → Linked t prev → o ≡ tab 256 (image (sizeOf t) (turn back (steps (treeOf t) a name)) S)
+unfolding steps
+step-whole t prev a name back S all o p e h k =
+    p ∙ image-turned (sizeOf t) (small t prev k) back (axis (treeOf t) a) (steps (treeOf t) a name) S
+    (λ x y lx ly. rw (passes-each (treeOf t) (k .tree) name y ly (sym e ∙ h)) (sym (and-comm (axis (treeOf t) a x y) true)))

@@ -1,11 +1,11 @@
 -- Moves along links: for a node y a number L y, which is y's link where it is lower than y, and no link else.
 use Prim.Native.Nat.{ℕ, zero, suc}
-use mathlib.Core.Bool.{Bool, true, false, _&&_, _||_}
+use mathlib.Core.Bool.{Bool, true, false, not, _&&_, _||_}
 use mathlib.Core.List.{List, [], _∷_}
 use lib.ListN.{getD}
 use lib.Dec.{ltb, eqb}
 use Rattle.model.specs.Tree.{Tree, treeOf, sizeOf}
-use Rattle.model.specs.Axes.{self, child, right, descendant, following, followingSibling, descendantOrSelf, noAxis}
+use Rattle.model.specs.Axes.{isDocument, self, child, right, descendant, following, followingSibling, descendantOrSelf, noAxis}
 use Rattle.model.specs.Accepted.{Ordered}
 use Rattle.tree.specs.Links.{PreviousSiblings}
 
@@ -46,6 +46,10 @@ forward t h =
     ∷ [])
     h
     noAxis
+
+-- every node passes the name test: node() does, and the star where node 0 is no document node, since no other node may be one
+abbrev pub passesAll : Tree → ℕ → Bool
+passesAll t name = eqb name 65534 || (eqb name 65535 && not (isDocument t 0))
 
 -- a tree table in document order, and the previous siblings of its nodes
 pub record Linked (t prev : List ℕ) : Type 0 where

@@ -8,9 +8,9 @@ ghost use lib.ListN.{length};
 ghost use lib.Dec.{eqb};
 ghost use Rattle.model.specs.Sets.{tab, ones, memb, upto, turn, image};
 ghost use Rattle.model.specs.Tree.{treeOf, sizeOf};
-ghost use Rattle.model.specs.Axes.{following, axis, passes, steps};
+ghost use Rattle.model.specs.Axes.{following, axis, matches, passes, steps};
 ghost use Rattle.tree.specs.Links.{links};
-ghost use Rattle.steps.specs.Moves.{along, star, forward, Linked};
+ghost use Rattle.steps.specs.Moves.{along, star, forward, passesAll, Linked};
 
 // From each node to those whose link it is; by one hop or more where closed is set. One pass: the byte of the link is final
 // before it is read.
@@ -142,12 +142,20 @@ fn axis_image(tree: &[u16], prev: &[u16], a: usize, back: bool, from: [u8; 256])
     forward_image(tree, prev, h, back, from)
 }
 
-// Node y passes the name test.
-fn passes_name(tree: &[u16], name: usize, y: usize) -> bool
-    requires { ⌜ y < sizeOf (now tree) ⌝ }
-    ensures { λ r. ⌜ r ≡ passes (treeOf (now (tree .entry))) name y ⌝ }
+// Whether every node passes the name test: node() in each tree, the star where node 0 is no document node.
+fn passes_all(tree: &[u16], name: usize) -> bool
+    requires { ⌜ 0 < sizeOf (now tree) ⌝ }
+    ensures { λ r. ⌜ r ≡ passesAll (treeOf (now (tree .entry))) name ⌝ }
 {
-    (name == 65535) | (model::wide(tree[2 * y + 1]) == name)
+    (name == 65534) | ((name == 65535) & (tree::tag(tree, 0) != 65534))
+}
+
+// The name test matches the tag. Tags are compared as they are, in 16 bits, so that vector code takes more of them at a time.
+fn matches_tag(name: usize, tag: u16) -> bool
+    ensures { λ r. ⌜ r ≡ matches name tag ⌝ }
+{
+    let same = (name < 65536) & (tag == (name % 65536) as u16);
+    (name == 65534) | (((name == 65535) & (tag != 65534)) | same)
 }
 
 // The nodes that pass the name test. One pass.
@@ -159,14 +167,14 @@ fn named(tree: &[u16], name: usize) -> [u8; 256]
     let mut r = [0u8; 256];
     let mut y = 0;
     while y < n {
-        r[y] = sets::byte(passes_name(tree, name, y));
+        r[y] = sets::byte(matches_tag(name, tree::tag(tree, y)));
         y += 1;
     }
     r
 }
 
 // The image under a step, by the code of its axis and its name test, or under the step's converse: forwards the test cuts the
-// image, backwards the set. The star passes every node, so that nothing is cut.
+// image, backwards the set. Where every node passes, nothing is cut.
 fn step_image(
     tree: &[u16],
     prev: &[u16],
@@ -182,7 +190,8 @@ fn step_image(
         ≡ tab 256 (image (sizeOf (now (tree .entry))) (turn back (steps (treeOf (now (tree .entry))) a name)) (memb from))
         ⌝ }
 {
-    if name == 65535 {
+    let all = passes_all(tree, name);
+    if all {
         return axis_image(tree, prev, a, back, from);
     }
     let s = named(tree, name);

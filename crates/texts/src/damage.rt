@@ -57,7 +57,7 @@ fn large(
     start: usize,
     length: usize,
 ) -> Cut {
-    let word = random::below(seed, 34);
+    let word = random::below(seed, words::COUNT);
     let size = words::length(word);
     words::put(word, piece, 0);
     if form == 3 {
@@ -82,10 +82,41 @@ fn large(
     }
 }
 
-fn choose(seed: &mut u64, piece: &mut words::Bytes, length: usize) -> Cut {
+// Whether a word stands at a place of a text.
+fn stands(text: &[u8], place: usize, word: usize) -> bool {
+    words::common(text, place, word) == words::length(word)
+}
+
+// The first place from one on at which a word stands; the text's length where there is none.
+fn find(text: &[u8], start: usize, word: usize) -> usize {
+    let end = text.len();
+    let mut place = start;
+    while place < end {
+        if stands(text, place, word) {
+            return place;
+        }
+        place += 1;
+    }
+    end
+}
+
+// Where one byte is damaged: any place or, if one follows and every third time, within a `node()`.
+fn spot(seed: &mut u64, text: &[u8]) -> usize {
+    let any = random::below(seed, text.len());
+    let near = find(text, any, words::ANY_NODE);
+    let within = random::below(seed, words::length(words::ANY_NODE));
+    if (random::below(seed, 3) != 0) | (near == text.len()) {
+        return any;
+    }
+    std::num::wrapping_add_usize(near, within)
+}
+
+// What is taken out of a text, with the piece that comes instead: a byte or a word.
+fn choose(seed: &mut u64, piece: &mut words::Bytes, text: &[u8]) -> Cut {
     let form = random::below(seed, 6);
+    let length = text.len();
     if form < 3 {
-        let at = random::below(seed, length);
+        let at = spot(seed, text);
         return small(seed, piece, form, at);
     }
     let start = random::between(seed, 0, length);
@@ -116,7 +147,7 @@ fn fill(text: &[u8], piece: &words::Bytes, c: Cut, to: &mut words::Bytes, length
 // Makes a text with some damage; answers how many bytes it has.
 pub fn make(seed: &mut u64, text: &[u8], to: &mut words::Bytes) -> usize {
     let mut piece = [0u8; 2048];
-    let c = choose(seed, &mut piece, text.len());
+    let c = choose(seed, &mut piece, text);
     let taken = std::num::wrapping_sub_usize(c.end, c.start);
     let kept = std::num::wrapping_sub_usize(text.len(), taken);
     let length = std::num::wrapping_add_usize(kept, c.size);

@@ -5,6 +5,7 @@ use super::vocabulary;
 use chart::spans;
 use chart::words;
 use harness::table;
+use reference::evaluator;
 use reference::random;
 
 // Numbers, the last of them on top.
@@ -14,14 +15,15 @@ pub type Stack = [usize; 1024];
 pub type Numbers = [u16; 320];
 
 // A text as far as it is made: how many bytes it has; how many entries its table has and how many variables; where its first
-// unknown name starts, or 65535; the words that it holds, bit k for word k; the heights of the two stacks; and how many
-// choices are left until all is made as short as can be.
+// unknown name starts, or 65535; the words and the names that it holds, bit k for number k; the heights of the two stacks; and
+// how many choices are left until all is made as short as can be.
 pub struct Made {
     pub length: usize,
     pub entries: usize,
     pub columns: usize,
     pub unknown: usize,
     pub words: u64,
+    pub names: u64,
     pub tasks: usize,
     pub operands: usize,
     pub choices: usize,
@@ -87,9 +89,9 @@ fn join(m: Made, operands: &mut Stack, due: &mut Numbers, kind: usize) -> Made {
     append(m, operands, due, 2, random::entry(kind, before, last, 0))
 }
 
-// A step with the star.
-fn step(axis: usize) -> model::Entry {
-    random::entry(0, axis, 0, 65535)
+// A step with a name test.
+fn step(axis: usize, test: usize) -> model::Entry {
+    random::entry(0, axis, 0, test)
 }
 
 // `$k` for any k behind what is written, and an entry of a kind over it.
@@ -112,9 +114,9 @@ fn number(
 
 // One of the names; one that is too long is rare.
 fn any_name(seed: &mut u64) -> usize {
-    let name = random::below(seed, 14);
+    let name = random::below(seed, vocabulary::SHORT);
     if random::below(seed, 40) == 0 {
-        return random::between(seed, 14, 15);
+        return std::num::wrapping_add_usize(vocabulary::SHORT, random::below(seed, 2));
     }
     name
 }
@@ -132,15 +134,30 @@ fn named(
     let name = any_name(seed);
     let tag = vocabulary::tag(tags, name);
     vocabulary::put(name, text, m.length);
-    let mut next = append(m, operands, due, 0, random::entry(0, axis, 0, tag));
+    let mut next = append(m, operands, due, 0, step(axis, tag));
     next.length = std::num::wrapping_add_usize(m.length, vocabulary::length(name));
+    next.names = m.names | spans::bit(name);
     if (tag == vocabulary::UNKNOWN) & (m.unknown == 65535) {
         next.unknown = m.length;
     }
     next
 }
 
-// A step along any axis.
+// A step of which a word is written: its name test behind `axis::`, or all of it.
+fn tested(
+    m: Made,
+    text: &mut words::Bytes,
+    operands: &mut Stack,
+    due: &mut Numbers,
+    axis: usize,
+    word: usize,
+    test: usize,
+) -> Made {
+    let written = write(m, text, word);
+    append(written, operands, due, 0, step(axis, test))
+}
+
+// A step along any axis: with a name, half as often with the star, and as often with `node()`.
 fn leaf_step(
     seed: &mut u64,
     m: Made,
@@ -152,24 +169,23 @@ fn leaf_step(
     let axis = random::below(seed, 13);
     let axis_only = write(m, text, axis);
     let written = write(axis_only, text, words::DOUBLE_COLON);
-    if random::below(seed, 2) == 0 {
-        let star = write(written, text, words::STAR);
-        return append(star, operands, due, 0, step(axis));
+    let form = random::below(seed, 4);
+    if form == 0 {
+        return tested(
+            written,
+            text,
+            operands,
+            due,
+            axis,
+            words::STAR,
+            evaluator::STAR,
+        );
+    }
+    if form == 1 {
+        let any = evaluator::ANY_NODE;
+        return tested(written, text, operands, due, axis, words::ANY_NODE, any);
     }
     named(seed, written, text, operands, due, tags, axis)
-}
-
-// A step that is written as one word.
-fn short(
-    m: Made,
-    text: &mut words::Bytes,
-    operands: &mut Stack,
-    due: &mut Numbers,
-    word: usize,
-    axis: usize,
-) -> Made {
-    let written = write(m, text, word);
-    append(written, operands, due, 0, step(axis))
 }
 
 fn leaf(
@@ -182,13 +198,13 @@ fn leaf(
     task: usize,
 ) -> Made {
     if task == productions::DEEP {
-        return append(m, operands, due, 0, step(11));
+        return append(m, operands, due, 0, step(11, evaluator::ANY_NODE));
     }
     if task == productions::LEAF_DOT {
-        return short(m, text, operands, due, words::DOT, 0);
+        return tested(m, text, operands, due, 0, words::DOT, evaluator::ANY_NODE);
     }
     if task == productions::LEAF_DOTS {
-        return short(m, text, operands, due, words::DOTS, 2);
+        return tested(m, text, operands, due, 2, words::DOTS, evaluator::ANY_NODE);
     }
     if task == productions::LEAF_VARIABLE {
         let dollar = write(m, text, words::DOLLAR);
@@ -240,7 +256,7 @@ fn act(
     let task = top(tasks, m.tasks, 1);
     let mut rest = m;
     rest.tasks = std::num::wrapping_sub_usize(m.tasks, 1);
-    if task < 34 {
+    if task < words::COUNT {
         return write(rest, text, task);
     }
     if task < productions::JOIN {
@@ -265,6 +281,7 @@ fn start(choices: usize) -> Made {
         columns: 0,
         unknown: 65535,
         words: 0,
+        names: 0,
         tasks: 1,
         operands: 0,
         choices: choices,

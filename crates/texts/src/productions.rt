@@ -2,7 +2,7 @@
 use chart::words;
 use reference::random;
 
-// What may be to do. Below 34 it is to write a word of the grammar (words.rt of the crate chart); these are the symbols.
+// What may be to do. Below words::COUNT it is to write a word of the grammar (words.rt of the crate chart); these are the symbols.
 pub const PATH: usize = 40;
 
 const MORE_PATH: usize = 41;
@@ -56,7 +56,7 @@ const KIND_10: usize = 74;
 
 const KIND_11: usize = 75;
 
-// To make an operand: descendant-or-self::* with nothing written, any step, a variable, and `is`; the others are as
+// To make an operand: descendant-or-self::node() with nothing written, any step, a variable, and `is`; the others are as
 // written.
 pub const DEEP: usize = 80;
 

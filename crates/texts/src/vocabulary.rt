@@ -4,15 +4,18 @@ use harness::table;
 use reference::random;
 
 // The tag of each name, and UNKNOWN if it has none.
-pub type Tags = [usize; 16];
+pub type Tags = [usize; 19];
 
 pub const UNKNOWN: usize = 65535;
 
 // What fills a name up to 40 bytes.
 const END: u8 = b'~';
 
-// Names that words of the grammar, or each other, begin with or spell. The last two are longer than any in a vocabulary.
-const NAMES: [[u8; 40]; 16] = [
+// How many of the names may be in a vocabulary; the two behind them are too long.
+pub const SHORT: usize = 17;
+
+// Names that words of the grammar, or each other, begin with or spell.
+const NAMES: [[u8; 40]; 19] = [
     *b"a~~~~~~~~~~~~~~~~~~~~~~~~~~~~~~~~~~~~~~~",
     *b"ab~~~~~~~~~~~~~~~~~~~~~~~~~~~~~~~~~~~~~~",
     *b"A~~~~~~~~~~~~~~~~~~~~~~~~~~~~~~~~~~~~~~~",
@@ -26,13 +29,16 @@ const NAMES: [[u8; 40]; 16] = [
     *b"self~~~~~~~~~~~~~~~~~~~~~~~~~~~~~~~~~~~~",
     *b"_-9Z~~~~~~~~~~~~~~~~~~~~~~~~~~~~~~~~~~~~",
     *b"0~~~~~~~~~~~~~~~~~~~~~~~~~~~~~~~~~~~~~~~",
+    *b"nod~~~~~~~~~~~~~~~~~~~~~~~~~~~~~~~~~~~~~",
+    *b"node~~~~~~~~~~~~~~~~~~~~~~~~~~~~~~~~~~~~",
+    *b"nodes~~~~~~~~~~~~~~~~~~~~~~~~~~~~~~~~~~~",
     *b"abcdefghijklmnopqrstuvwxyz-_0123~~~~~~~~",
     *b"abcdefghijklmnopqrstuvwxyz-_01234~~~~~~~",
     *b"ABCDEFGHIJKLMNOPQRSTUVWXYZ-_0123456789aA",
 ];
 
 fn byte(name: usize, k: usize) -> u8 {
-    if name < 16 {
+    if name < 19 {
         if k < 40 {
             return NAMES[name][k];
         }
@@ -63,7 +69,7 @@ pub fn put(name: usize, to: &mut words::Bytes, place: usize) {
 
 // The tag of a name; a name from beyond the list has none.
 pub fn tag(tags: &Tags, name: usize) -> usize {
-    if name < 16 {
+    if name < 19 {
         return tags[name];
     }
     UNKNOWN
@@ -71,7 +77,7 @@ pub fn tag(tags: &Tags, name: usize) -> usize {
 
 // A name gets a tag, unless it has a lower one.
 fn meet(tags: &mut Tags, name: usize, tag: usize) {
-    if name < 16 {
+    if name < 19 {
         if tags[name] == UNKNOWN {
             tags[name] = tag;
         }
@@ -98,7 +104,7 @@ pub fn fill(
     let mut end = 0;
     let mut i = 0;
     while i < count {
-        let name = random::below(seed, 14);
+        let name = random::below(seed, SHORT);
         let next = append(to, end, name);
         end = next;
         meet(tags, name, std::num::wrapping_add_usize(first, i));
@@ -117,7 +123,7 @@ pub fn spoil(seed: &mut u64, to: &mut words::Bytes, end: usize) -> usize {
     }
     if form == 1 {
         words::put_byte(to, end, 33);
-        put(14, to, start);
+        put(SHORT, to, start);
         return std::num::wrapping_add_usize(start, 33);
     }
     words::put_byte(to, end, 4);

@@ -60,12 +60,13 @@ fn is_bad_parent(tree: &[u16], x: usize) -> bool
     !is_descendant_or_self(tree, p, x - 1)
 }
 
-// Refusal 7: whether node x has a reserved tag.
+// Refusal 7: whether node x has a reserved tag; node 0 may be a document node.
 fn is_bad_tag(tree: &[u16], x: usize) -> bool
     requires { ⌜ x < sizeOf (now tree) ⌝ }
     ensures { λ r. ⌜ r ≡ badTag (treeOf (now (tree .entry))) x ⌝ }
 {
-    65533 < tag(tree, x)
+    let g = tag(tree, x);
+    (65533 < g) & ((0 < x) | (g != 65534))
 }
 
 // Whether node x fails the check of refusal k, 6 or 7, where no node before it does.
@@ -96,15 +97,17 @@ fn lowest_bad(tree: &[u16], k: usize) -> usize
     n
 }
 
-// Whether some node has a reserved tag. It goes through all nodes without a branch, so that vector code takes several at a time.
+// Whether some node has a reserved tag. Past node 0 it goes through all nodes without a branch and without a look at their numbers, so
+// that vector code takes several at a time.
 fn has_bad_tag(tree: &[u16]) -> bool
+    requires { ⌜ 0 < sizeOf (now tree) ⌝ }
     ensures { λ r. ⌜ r ≡ any (sizeOf (now (tree .entry))) (badTag (treeOf (now (tree .entry)))) ⌝ }
 {
     let n = tree.len() / 2;
-    let mut found = false;
-    let mut x = 0;
+    let mut found = is_bad_tag(tree, 0);
+    let mut x = 1;
     while x < n {
-        found = is_bad_tag(tree, x) | found;
+        found = (65533 < tag(tree, x)) | found;
         x += 1;
     }
     found
@@ -112,6 +115,7 @@ fn has_bad_tag(tree: &[u16]) -> bool
 
 // The lowest node with a reserved tag, or the number of nodes. It is searched for only where there is one.
 fn lowest_bad_tag(tree: &[u16]) -> usize
+    requires { ⌜ 0 < sizeOf (now tree) ⌝ }
     ensures { λ r. ⌜ r ≡ lowest (sizeOf (now (tree .entry))) (badTag (treeOf (now (tree .entry)))) ⌝ }
 {
     let bad = has_bad_tag(tree);

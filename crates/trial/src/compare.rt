@@ -3,6 +3,7 @@ use super::call;
 use harness::line;
 use harness::table;
 use harness::tally;
+use reference::document;
 use reference::evaluator;
 use reference::random;
 
@@ -48,7 +49,7 @@ fn compare_image(
     call::compare_set(tally, c, tree, query, nodes, &set, &due);
 }
 
-// The table of all pairs.
+// The table of all pairs; answers how many there are.
 fn compare_pairs(
     tally: &mut tally::Tally,
     seed: &mut u64,
@@ -56,13 +57,14 @@ fn compare_pairs(
     query: &table::Table,
     nodes: &table::Table,
     pairs: &evaluator::Pairs,
-) {
+) -> usize {
     let mut due = [call::PATTERN; 66560];
     let n = table::size(tree);
     let found = evaluator::all_pairs(pairs, table::last(query), n, &mut due);
     tally::add(tally, tally::PAIRS, found as u64);
     let c = accepted(seed, call::PAIRS, nodes, 0, table::times(n, n), 0);
     call::compare_pairs(tally, c, tree, query, nodes, &due);
+    found
 }
 
 // The images of two random sets each way.
@@ -80,6 +82,23 @@ fn compare_images(
     compare_image(tally, seed, call::BACKWARDS, tree, query, nodes, pairs);
 }
 
+// Counts a tree with a document node, and whether the query, which has so many pairs, leaves that out by its star.
+fn count_document(
+    tally: &mut tally::Tally,
+    tree: &table::Table,
+    query: &table::Table,
+    nodes: &table::Table,
+    pairs: &mut evaluator::Pairs,
+    found: usize,
+) {
+    if !document::is_there(tree) {
+        return;
+    }
+    tally::add(tally, tally::DOCUMENTS, 1);
+    let left_out = document::is_left_out(pairs, tree, query, nodes, found);
+    tally::add(tally, tally::LEFT_OUT, left_out as u64);
+}
+
 // All results of a tree and a query that a line asks for, under a random assignment.
 pub fn run(
     tally: &mut tally::Tally,
@@ -94,5 +113,6 @@ pub fn run(
     random::make_nodes(seed, &mut nodes, columns, table::size(&tree));
     evaluator::fill(pairs, &tree, &query, &nodes);
     compare_images(tally, seed, &tree, &query, &nodes, pairs);
-    compare_pairs(tally, seed, &tree, &query, &nodes, pairs);
+    let found = compare_pairs(tally, seed, &tree, &query, &nodes, pairs);
+    count_document(tally, &tree, &query, &nodes, pairs, found);
 }

@@ -5,8 +5,11 @@ use harness::table;
 use harness::tally;
 use reference::indexing;
 
-// What fills a buffer before a call: a number that is no tag, no node and no count.
-pub const PATTERN: u16 = 65534;
+// What fills the buffers before a call: in that of the index a number that is no node and does not stand for none, in that of the
+// tags one that is no tag, no node and no count.
+pub const NEXT_PATTERN: u16 = 65534;
+
+pub const TAGS_PATTERN: u16 = 65535;
 
 // A call: the numbers that there is room for, and the reply that is due.
 pub struct Call {
@@ -45,8 +48,8 @@ pub fn compare(
     due_next: &table::Rows,
     due_tags: &table::Rows,
 ) {
-    let mut next = [PATTERN; 1024];
-    let mut tags = [PATTERN; 1024];
+    let mut next = [NEXT_PATTERN; 1024];
+    let mut tags = [TAGS_PATTERN; 1024];
     let got = lend(table::numbers(tree), c, &mut next, &mut tags);
     let number = model::Reply {
         number: got.number,
@@ -61,8 +64,8 @@ pub fn compare(
 
 // index NUMBER PLACE | ROOM ROOM | NEXT | TAGS
 pub fn run(tally: &mut tally::Tally, tree: &table::Table, line: &line::Line) {
-    let mut next = [PATTERN; 1024];
-    let mut tags = [PATTERN; 1024];
+    let mut next = [NEXT_PATTERN; 1024];
+    let mut tags = [TAGS_PATTERN; 1024];
     line::copy_rows(line, 2, &mut next);
     line::copy_rows(line, 3, &mut tags);
     let c = Call {

@@ -158,6 +158,9 @@ fn run_many(tally: &mut tally::Tally, line: &line::Line, letter: u8) {
     if letter == b'u' {
         tally::expect_damage(tally, some, of);
     }
+    if letter == b'o' {
+        tally::expect_left_out(tally, some, of);
+    }
 }
 
 // Runs the line that starts at a place, and answers where the next one starts.

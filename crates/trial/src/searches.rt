@@ -40,8 +40,8 @@ fn compare_index(
     next_room: usize,
     tags_room: usize,
 ) {
-    let mut next = [indexes::PATTERN; 1024];
-    let mut tags = [indexes::PATTERN; 1024];
+    let mut next = [indexes::NEXT_PATTERN; 1024];
+    let mut tags = [indexes::TAGS_PATTERN; 1024];
     let t = table::numbers(tree);
     let due = indexing::make_due(t, next_room, tags_room, &mut next, &mut tags);
     let c = indexes::Call {
@@ -54,7 +54,8 @@ fn compare_index(
 
 // A damaged tree is refused whatever the rooms are, and nothing is written.
 fn refuse_index(tally: &mut tally::Tally, seed: &mut u64, tree: &table::Table, length: usize) {
-    let due = [indexes::PATTERN; 1024];
+    let due_next = [indexes::NEXT_PATTERN; 1024];
+    let due_tags = [indexes::TAGS_PATTERN; 1024];
     let mut other = *tree;
     let reply = damage::in_tree(seed, &mut other);
     let next_room = maybe_short(seed, table::size(tree));
@@ -64,7 +65,7 @@ fn refuse_index(tally: &mut tally::Tally, seed: &mut u64, tree: &table::Table, l
         tags_room: tags_room,
         due: indexing::refused(model::wide(reply.number), model::wide(reply.place)),
     };
-    indexes::compare(tally, &other, c, &due, &due);
+    indexes::compare(tally, &other, c, &due_next, &due_tags);
 }
 
 // An index is made, and refused for its buffers and for its tree.

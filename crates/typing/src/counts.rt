@@ -23,6 +23,9 @@ pub const AT_END: usize = 33;
 
 pub const WHOLE: usize = 34;
 
+// The names in accepted texts, as the words.
+pub const NAMES: usize = 35;
+
 pub fn add(counts: &mut Counts, at: usize) {
     if at < 40 {
         let sum = std::num::wrapping_add_u64(counts[at], 1);
@@ -51,12 +54,13 @@ fn expect_share(tally: &mut tally::Tally, counts: &Counts, at: usize, of: usize)
     tally::expect(tally, sum_at(counts, DAMAGED) as usize <= share);
 }
 
-// Every kind, every axis and every word was met; and of the damaged texts no fewer than one of so many was refused inside, and
-// one of so many at its end and not at all.
+// Every kind, every axis, every word and every name that can have a tag was met; and of the damaged texts no fewer than one of so
+// many was refused inside, and one of so many at its end and not at all.
 pub fn expect_all(tally: &mut tally::Tally, counts: &Counts, inside: usize, others: usize) {
     tally::expect(tally, sum_at(counts, KINDS) == 8191);
     tally::expect(tally, sum_at(counts, AXES) == 8191);
-    tally::expect(tally, sum_at(counts, WORDS) == 17179869183);
+    tally::expect(tally, sum_at(counts, WORDS) == 34359738367);
+    tally::expect(tally, sum_at(counts, NAMES) == 131071);
     expect_share(tally, counts, INSIDE, inside);
     expect_share(tally, counts, AT_END, others);
     expect_share(tally, counts, WHOLE, others);

@@ -215,6 +215,7 @@ fn compare_made(
     counts::add(counts, counts::TEXTS);
     if reply.number == 0 {
         counts::meet(counts, counts::WORDS, m.words);
+        counts::meet(counts, counts::NAMES, m.names);
         meet_entries(counts, numbers, m.entries);
         call::compare(tally, counts, text, house, site, lent, reply, numbers);
         return;
@@ -313,7 +314,7 @@ fn run_one(
     let mut site = [0u8; 2048];
     let mut bytes = [0u8; 2048];
     let mut numbers = [call::PATTERN; 320];
-    let mut tags = [vocabulary::UNKNOWN; 16];
+    let mut tags = [vocabulary::UNKNOWN; 19];
     let most = fill_both(seed, &mut house, &mut site, &mut tags);
     let choices = random::between(seed, line::number(line, 1, 0), line::number(line, 1, 1));
     let m = grow::make(seed, &mut bytes, &mut numbers, &tags, choices);

@@ -22,8 +22,8 @@ same-length-2 c = search needs
 returns : tie.Need-returns
 returns c = search (when-less, needs)
 
-put-star-requires : tie.Need-put-star-requires
-put-star-requires c κs = search needs
+put-step-requires : tie.Need-put-step-requires
+put-step-requires c κs = search needs
 
 same-length-3 : tie.Need-same-length-3
 same-length-3 c = search needs
@@ -68,7 +68,7 @@ put-have-spec =
     same-length
     same-length-2
     returns
-    put-star-requires
+    put-step-requires
     same-length-3
     same-length-4
     returns-2

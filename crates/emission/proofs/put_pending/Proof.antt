@@ -4,8 +4,8 @@ use borrow.Author.Needs.{needs}
 use Rattle.emission.proofs.put_pending.Statement.{statement}
 use Rattle.emission.proofs.put_pending.Tie as tie
 
-put-leaf-requires : tie.Need-put-leaf-requires
-put-leaf-requires c κs = search needs
+put-step-requires : tie.Need-put-step-requires
+put-step-requires c κs = search needs
 
 same-length : tie.Need-same-length
 same-length c = search needs
@@ -16,8 +16,8 @@ same-length-2 c = search needs
 returns : tie.Need-returns
 returns c = search (when, needs)
 
-put-star-requires : tie.Need-put-star-requires
-put-star-requires c κs = search needs
+put-step-requires-2 : tie.Need-put-step-requires-2
+put-step-requires-2 c κs = search needs
 
 same-length-3 : tie.Need-same-length-3
 same-length-3 c = search needs
@@ -35,11 +35,11 @@ pub put-pending-spec : {M : Type 1} → statement M
 put-pending-spec =
     tie.close
     (tie.spec
-    put-leaf-requires
+    put-step-requires
     same-length
     same-length-2
     returns
-    put-star-requires
+    put-step-requires-2
     same-length-3
     same-length-4
     returns-2

@@ -4,8 +4,8 @@ use borrow.Author.Needs.{needs}
 use Rattle.emission.proofs.put_slash.Statement.{statement}
 use Rattle.emission.proofs.put_slash.Tie as tie
 
-put-star-requires : tie.Need-put-star-requires
-put-star-requires c κs = search needs
+put-step-requires : tie.Need-put-step-requires
+put-step-requires c κs = search needs
 
 put-binary-requires : tie.Need-put-binary-requires
 put-binary-requires c κs = search needs
@@ -19,8 +19,8 @@ same-length-2 c = search needs
 returns : tie.Need-returns
 returns c = search (when, wrote-two, needs)
 
-put-star-requires-2 : tie.Need-put-star-requires-2
-put-star-requires-2 c κs = search needs
+put-step-requires-2 : tie.Need-put-step-requires-2
+put-step-requires-2 c κs = search needs
 
 same-length-3 : tie.Need-same-length-3
 same-length-3 c = search needs
@@ -38,12 +38,12 @@ pub put-slash-spec : {M : Type 1} → statement M
 put-slash-spec =
     tie.close
     (tie.spec
-    put-star-requires
+    put-step-requires
     put-binary-requires
     same-length
     same-length-2
     returns
-    put-star-requires-2
+    put-step-requires-2
     same-length-3
     same-length-4
     returns-2

@@ -1,4 +1,4 @@
-use Rattle.emission.proofs.Writing.{word-want, word-have, word-letter, word-star}
+use Rattle.emission.proofs.Writing.{word-want, word-have, word-letter, word-step}
 use borrow.Author.Needs.{needs}
 use Rattle.emission.proofs.write_word.Statement.{statement}
 use Rattle.emission.proofs.write_word.Tie as tie
@@ -33,8 +33,11 @@ returns-2 c = search (word-have, needs)
 returns-3 : tie.Need-returns-3
 returns-3 c = search (word-letter, needs)
 
-put-star-requires : tie.Need-put-star-requires
-put-star-requires c κs = search needs
+unnamed-tag-requires : tie.Need-unnamed-tag-requires
+unnamed-tag-requires c κs = search needs
+
+put-step-requires : tie.Need-put-step-requires
+put-step-requires c κs = search needs
 
 same-length-5 : tie.Need-same-length-5
 same-length-5 c = search needs
@@ -43,7 +46,7 @@ same-length-6 : tie.Need-same-length-6
 same-length-6 c = search needs
 
 returns-4 : tie.Need-returns-4
-returns-4 c = search (word-star, needs)
+returns-4 c = search (word-step, needs)
 
 pub write-word-spec : {M : Type 1} → statement M
 write-word-spec =
@@ -59,7 +62,8 @@ write-word-spec =
     same-length-4
     returns-2
     returns-3
-    put-star-requires
+    unnamed-tag-requires
+    put-step-requires
     same-length-5
     same-length-6
     returns-4)

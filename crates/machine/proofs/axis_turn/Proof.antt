@@ -6,8 +6,11 @@ use Rattle.machine.proofs.axis_turn.Tie as tie
 is-name-byte-requires : tie.Need-is-name-byte-requires
 is-name-byte-requires c κs = search needs
 
+letter-turn-requires : tie.Need-letter-turn-requires
+letter-turn-requires c κs = search needs
+
 returns : tie.Need-returns
-returns c = rw (sym (c .before .is-name-byte .ensures) ∙ c .if1 .taken)
+returns c = rw (sym (c .before .before .is-name-byte .ensures) ∙ c .before .if1 .taken) (c .letter-turn .ensures)
 
 returns-2 : tie.Need-returns-2
 returns-2 c = rw (sym (c .before .before .is-name-byte .ensures) ∙ c .before .if1 .left, c .if2 .taken)
@@ -16,4 +19,4 @@ returns-3 : tie.Need-returns-3
 returns-3 c = rw (sym (c .before .before .is-name-byte .ensures) ∙ c .before .if1 .left, c .if2 .left)
 
 pub axis-turn-spec : {M : Type 1} → statement M
-axis-turn-spec = tie.close (tie.spec is-name-byte-requires returns returns-2 returns-3)
+axis-turn-spec = tie.close (tie.spec is-name-byte-requires letter-turn-requires returns returns-2 returns-3)

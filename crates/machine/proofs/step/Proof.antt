@@ -21,6 +21,9 @@ returns-2 c = search (step-axis, needs)
 is-name-byte-requires : tie.Need-is-name-byte-requires
 is-name-byte-requires c κs = search needs
 
+letter-turn-requires : tie.Need-letter-turn-requires
+letter-turn-requires c κs = search needs
+
 returns-3 : tie.Need-returns-3
 returns-3 c = search (step-name, needs)
 
@@ -40,6 +43,7 @@ step-spec =
     axis-turn-requires
     returns-2
     is-name-byte-requires
+    letter-turn-requires
     returns-3
     have-turn-requires
     returns-4)

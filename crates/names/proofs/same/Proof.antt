@@ -4,7 +4,7 @@ use native.Mathlib.Omega.{arith}
 use Prim.Native.Nat.{_-_, _≤_}
 use mathlib.Core.Path.{_≡_, refl}
 use lib.ListN.{length, drop}
-use Rattle.names.specs.Tags.{equal}
+use Rattle.model.specs.Lists.{equal}
 use Rattle.names.proofs.Searching.{other-size, byte-differs, byte-same, all-same}
 use Rattle.names.proofs.same.Statement.{statement}
 use Rattle.names.proofs.same.Tie as tie

@@ -1,11 +1,12 @@
 use Prim.Native.Nat.{_-_, _≤_}
 use native.Mathlib.Omega.{arith}
-use mathlib.Core.Path.{_≡_, refl, ap, _∙_}
+use mathlib.Core.Path.{_≡_, refl}
 use borrow.Author.Needs.{needs}
-use Rattle.model.specs.Sets.{bit, tab, upto}
+use Rattle.model.specs.Sets.{tab, upto}
 use Rattle.model.specs.Tree.{treeOf, sizeOf}
 use Rattle.model.specs.Axes.{passes}
 use Rattle.model.proofs.Bytes.{fill-start, fill-store, fill-done}
+use Rattle.steps.proofs.Images.{named-byte}
 use Rattle.steps.proofs.named.Statement.{statement}
 use Rattle.steps.proofs.named.Tie as tie
 
@@ -18,8 +19,11 @@ abbrev μ-loop : tie.MeasureT-loop
 loop-holds : tie.Need-loop-holds Inv-loop μ-loop
 loop-holds c = (omega arith, (refl, fill-start 256 _))
 
-passes-name-requires : tie.Need-passes-name-requires Inv-loop μ-loop
-passes-name-requires c κs = search needs
+tag-requires : tie.Need-tag-requires Inv-loop μ-loop
+tag-requires c κs = search needs
+
+matches-tag-requires : tie.Need-matches-tag-requires Inv-loop μ-loop
+matches-tag-requires c κs = search needs
 
 byte-requires : tie.Need-byte-requires Inv-loop μ-loop
 byte-requires c κs = search needs
@@ -34,7 +38,8 @@ loop-less : tie.Need-loop-less Inv-loop μ-loop
 loop-less c = omega arith
 
 loop-again : tie.Need-loop-again Inv-loop μ-loop
-loop-again c = (omega arith, (c .before .before .before .loop .inv .1 .0, fill-store 256 _ _ _ _ (c .before .before .before .loop .inv .1 .1) (c .byte .ensures ∙ ap bit (c .before .passes-name .ensures))))
+loop-again c =
+    (omega arith, (c .before .before .before .before .loop .inv .1 .0, fill-store 256 _ _ _ _ (c .before .before .before .before .loop .inv .1 .1) (search (named-byte, needs))))
 
 returns : tie.Need-returns Inv-loop μ-loop
 returns c = fill-done 256 _ _ _ _ (c .before .loop .inv .1 .1) (omega arith) (omega arith)
@@ -46,7 +51,8 @@ named-spec =
     Inv-loop
     μ-loop
     loop-holds
-    passes-name-requires
+    tag-requires
+    matches-tag-requires
     byte-requires
     array-write-r
     add-y

@@ -1,13 +1,16 @@
 use borrow.Author.Needs.{needs}
-use Rattle.steps.proofs.Images.{step-star, step-on, step-back}
+use Rattle.steps.proofs.Images.{some-nodes, step-whole, step-on, step-back}
 use Rattle.steps.proofs.step_image.Statement.{statement}
 use Rattle.steps.proofs.step_image.Tie as tie
+
+passes-all-requires : tie.Need-passes-all-requires
+passes-all-requires c κs = search (some-nodes, needs)
 
 axis-image-requires : tie.Need-axis-image-requires
 axis-image-requires c κs = search needs
 
 returns : tie.Need-returns
-returns c = search (step-star, needs)
+returns c = search (step-whole, needs)
 
 named-requires : tie.Need-named-requires
 named-requires c κs = search needs
@@ -34,6 +37,7 @@ pub step-image-spec : {M : Type 1} → statement M
 step-image-spec =
     tie.close
     (tie.spec
+    passes-all-requires
     axis-image-requires
     returns
     named-requires

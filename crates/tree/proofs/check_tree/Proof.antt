@@ -1,7 +1,7 @@
 use mathlib.Core.Path.{_∙_}
 use Rattle.model.specs.Checks.{treeChecks}
 use Rattle.model.proofs.Refusals.{accept, stop, pass, stop-at, pass-at}
-use Rattle.tree.proofs.Nodes.{place-fits}
+use Rattle.tree.proofs.Nodes.{place-fits, some-node}
 use borrow.Author.Needs.{needs}
 use Rattle.tree.proofs.check_tree.Statement.{statement}
 use Rattle.tree.proofs.check_tree.Tie as tie
@@ -27,7 +27,7 @@ unfolding treeChecks
 returns-2 c = c .reply-at2 .ensures ∙ search (stop-at, pass, needs)
 
 lowest-bad-tag-requires : tie.Need-lowest-bad-tag-requires
-lowest-bad-tag-requires c κs = search needs
+lowest-bad-tag-requires c κs = search (some-node, needs)
 
 reply-at-requires-3 : tie.Need-reply-at-requires-3
 reply-at-requires-3 c κs = search (place-fits, needs)

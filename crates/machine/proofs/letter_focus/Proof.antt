@@ -1,0 +1,26 @@
+use Rattle.machine.specs.Machine.{letterFocus}
+use Rattle.machine.proofs.letter_focus.Statement.{statement}
+use Rattle.machine.proofs.letter_focus.Tie as tie
+
+returns : tie.Need-returns
+unfolding letterFocus
+returns c = rw (c .if1 .taken)
+
+returns-2 : tie.Need-returns-2
+unfolding letterFocus
+returns-2 c = rw (c .before .if1 .left, c .if2 .taken)
+
+returns-3 : tie.Need-returns-3
+unfolding letterFocus
+returns-3 c = rw (c .before .before .if1 .left, c .before .if2 .left, c .if3 .taken)
+
+returns-4 : tie.Need-returns-4
+unfolding letterFocus
+returns-4 c = rw (c .before .before .before .if1 .left, c .before .before .if2 .left, c .before .if3 .left, c .if4 .taken)
+
+returns-5 : tie.Need-returns-5
+unfolding letterFocus
+returns-5 c = rw (c .before .before .before .if1 .left, c .before .before .if2 .left, c .before .if3 .left, c .if4 .left)
+
+pub letter-focus-spec : {M : Type 1} → statement M
+letter-focus-spec = tie.close (tie.spec returns returns-2 returns-3 returns-4 returns-5)
