@@ -15,7 +15,7 @@ use Rattle.grammar.specs.Grammar.Op.{or, and, union, intersect, except, 
 use Rattle.grammar.specs.Grammar.Expr.{wildcard, named, dot, dots, variable, bracket, negate, is, filter, rooted, join}
 use Rattle.grammar.specs.Online.{reach, feed, taken, settle, advance}
 use Rattle.grammar.specs.Automaton.{next, each, mayJoin, joined, opened, closed, isPath, stopsAt}
-use Rattle.grammar.specs.Typed.{belowBy, exprBy, pathBy, pathOf, below, exprOf}
+use Rattle.grammar.specs.Typed.{belowBy, exprBy, pathBy, pathOf}
 
 -- a text, its reading, and what that stands for where the tag of a name is its length
 pub record Example : Type 0 where

@@ -9,7 +9,7 @@ use Rattle.model.specs.Axes.{isDocument, axis, passes, steps}
 use Rattle.model.specs.Syntax.{Path, NodeExpr}
 use Rattle.model.specs.Syntax.Path.{step, compose, union, intersect, except, filter, variable, fromRoot}
 use Rattle.model.specs.Syntax.NodeExpr.{exists, negate, both, either, is}
-use Rattle.model.specs.Meaning.{pairsOver, holdsOver, pairs, holds}
+use Rattle.model.specs.Meaning.{pairsOver, pairs, holds}
 use Rattle.model.proofs.Booleans.{and-says, or-says, not-says, eqb-says}
 use Rattle.model.proofs.Exists.{any-iff, any-both}
 

@@ -7,10 +7,9 @@ use mathlib.Core.List.{List, [], _∷_, _++_}
 use lib.Dec.{ltb, eqb}
 use lib.ListN.{getD}
 use borrow.Author.Tests.{ne-eqb, eqb-true}
-use Rattle.model.specs.declared.Entry.{Entry}
-use Rattle.model.specs.Sets.{any, turn}
+use Rattle.model.specs.Sets.{turn}
 use Rattle.model.specs.Tree.{Tree, sizeOf, treeOf}
-use Rattle.model.specs.Axes.{isDocument, axis, passes, steps}
+use Rattle.model.specs.Axes.{axis, passes, steps}
 use Rattle.model.specs.Syntax.{Path, NodeExpr}
 use Rattle.model.specs.Syntax.Path.{step, compose, union, intersect, except, filter, variable, fromRoot}
 use Rattle.model.specs.Syntax.NodeExpr.{exists, negate, both, either, is}
@@ -22,7 +21,7 @@ use Rattle.model.specs.Refusals.{refuseAt}
 use Rattle.model.specs.Checks.{badTag, badField, badEntry, treeChecks, queryChecks, tableChecks, imageChecks, pairsChecks, pageChecks}
 use Rattle.model.specs.Services.{pageOutcome}
 use Rattle.model.specs.Encoding.{Term, pathTerm, exprTerm, size, tableOf, columns, columnsOf}
-use Rattle.model.specs.Before.{passesBefore, stepsBefore, badTagBefore, badFieldBefore, instead, Inputs, inputsOf, inputsBefore, repliesOf, repliesOver, NoDocument, NoNodeTest}
+use Rattle.model.specs.Before.{passesBefore, stepsBefore, badTagBefore, badFieldBefore, instead, inputsOf, inputsBefore, repliesOf, repliesOver, NoDocument, NoNodeTest}
 use Rattle.model.proofs.Booleans.{Seen, seen}
 use Rattle.model.proofs.Booleans.Seen.{yes!, no! }
 use Rattle.model.proofs.Encoding.{table-back}

@@ -16,7 +16,7 @@ use Rattle.model.specs.Tree.{Tree, sizeOf, treeOf}
 use Rattle.model.specs.Axes.{axis}
 use Rattle.model.specs.Meaning.{pairsOver}
 use Rattle.model.specs.QueryTable.{entriesOf, kind, tag, entry, pathAt, lastOf}
-use Rattle.model.specs.Results.{assigned, related, cell, imageBytes, pairsBytes}
+use Rattle.model.specs.Results.{assigned, related, cell}
 use Rattle.model.specs.Answers.{Row, keep, allRows, answers}
 use Rattle.model.specs.Pages.{Outcome, paged, unpaged}
 use Rattle.model.specs.Refusals.{Check, refuseAt, counting, verdict, written}
@@ -102,31 +102,38 @@ repliesOf t q =
       listed = answers t q;
     }
 
--- the same over all that a service takes from its tables
+-- The same over all that a service takes from its tables; each comment names the definition whose text this is.
 
 module _ (i : Inputs) where
   -- the number of nodes
   abbrev nodesIn : ℕ
   nodesIn = sizeOf (i .table)
 
+  -- tableChecks: the checks of the tables and of the assignment
   abbrev tablesOver : ℕ → List ℕ → List Check
   tablesOver columns nodes = i .tree ++ (i .query 0 columns ++ nodeChecks (i .table) columns nodes)
 
+  -- imageVerdict
   abbrev imageVerdictOver : ℕ → List ℕ → List ℕ → List ℕ → Reply
   imageVerdictOver columns nodes from to = verdict (tablesOver columns nodes ++ (setChecks (i .table) from ++ roomChecks (length to) nodesIn))
 
+  -- imageBytes
   abbrev imageOver : List ℕ → Bool → List ℕ → List ℕ
   imageOver nodes back from = tab nodesIn (image nodesIn (i .relation nodes back) (memb from))
 
+  -- pairsReply
   abbrev pairsVerdictOver : ℕ → List ℕ → List ℕ → Reply
-  pairsVerdictOver columns nodes table = verdict (tablesOver columns nodes ++ roomChecks (length table) (sizeOf (i .table) * sizeOf (i .table)))
+  pairsVerdictOver columns nodes table = verdict (tablesOver columns nodes ++ roomChecks (length table) (nodesIn * nodesIn))
 
+  -- answers
   abbrev answersOver : ℕ → List Row
   answersOver k = keep (λ row. any nodesIn (λ x. any nodesIn (λ y. i .relation row false x y))) (allRows nodesIn k)
 
+  -- the verdict of a page
   abbrev pageVerdictOver : ℕ → Cursor → List ℕ → Reply
   pageVerdictOver columns c buffer = verdict (i .tree ++ (i .query 1 columns ++ (cursorChecks (i .table) columns c ++ roomChecks (length buffer) columns)))
 
+  -- what services make of it, each in the words of its definition
   abbrev pub repliesOver : Replies
   repliesOver =
       record {
