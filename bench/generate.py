@@ -66,12 +66,14 @@ def either(a, b):
     return join(11, a, b)
 
 
-ANY = step("descendant-or-self")
+ANY, ANY_NODE = step("descendant-or-self"), step("descendant-or-self", 65534)
 QUERIES = [
     ("descendant::t2[child::t3 and not(following-sibling::*)]",
      only(step("descendant", 2), both(some(step("child", 3)), no(some(step("following-sibling")))))),
     ("/descendant-or-self::*/child::t3/following::t2",
      root(path(ANY, step("child", 3), step("following", 2)))),
+    ("/descendant-or-self::node()/child::t3/following::t2",
+     root(path(ANY_NODE, step("child", 3), step("following", 2)))),
     ("/descendant-or-self::*/child::t2/preceding::t3",
      root(path(ANY, step("child", 2), step("preceding", 3)))),
     ("child::*/descendant::*",
