@@ -18,8 +18,8 @@ _Static_assert(offsetof(gz_index_reply, next) == 8 && offsetof(gz_index_reply, t
 _Static_assert(sizeof(gz_cursor) == 8 && offsetof(gz_cursor, begun) == 0 && offsetof(gz_cursor, last) == 2, "gz_cursor");
 _Static_assert(sizeof(gz_part) == 16 && offsetof(gz_part, start) == 0 && offsetof(gz_part, length) == 8, "gz_part");
 _Static_assert(sizeof(bool) == 1 && sizeof(size_t) == 8, "bool and size_t");
-#if GZ_VERSION_MAJOR != 2 || GZ_VERSION_MINOR < 1
-#error "this program is written to version 2.1 of the header"
+#if GZ_VERSION_MAJOR != 3
+#error "this program is written to version 3 of the header"
 #endif
 
 #define PATTERN 0xA5
