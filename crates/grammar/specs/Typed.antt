@@ -87,9 +87,10 @@ module _ (any : ℕ) where
     exprBy (join (slash one) l r) tag = NodeExpr.exists (Path.compose (pathBy l tag) (pathBy r tag))
     exprBy (join (slash two) l r) tag = NodeExpr.exists (Path.compose (Path.compose (pathBy l tag) anywhereBy) (pathBy r tag))
 
--- today that test is node(), so that '.' is self::node(), '..' is parent::node() and '//' is /descendant-or-self::node()/ (document 02,
--- §5); it was the star before
+-- Today that test is node(), so that '.' is self::node(), '..' is parent::node() and '//' is /descendant-or-self::node()/ (document 02,
+-- §5); it was the star before.
 
+-- the step that '//' has between its slashes
 abbrev pub anywhere : Path
 anywhere = anywhereBy 65534
 
