@@ -1,7 +1,7 @@
 #!/usr/bin/env python3
 """Writes what the benchmark runs on to a folder: tree.xml, and tables.h with the same tree as a table, the queries as text
 and as tables, and the nodes that each query reaches from each node, worked out by tests/support/reference.py; searches for
-descendants with a tag, as queries; and the tree's index and the list of its tags.
+descendants with a tag, as queries; queries whose pairs are all asked for; and the tree's index and the list of its tags.
 
     generate.py [--different] FOLDER [NODES [SEED]]
 
@@ -66,6 +66,18 @@ def either(a, b):
     return join(11, a, b)
 
 
+def union(a, b):
+    return join(2, a, b)
+
+
+def intersect(a, b):
+    return join(3, a, b)
+
+
+def without(a, b):
+    return join(4, a, b)
+
+
 ANY, ANY_NODE = step("descendant-or-self"), step("descendant-or-self", 65534)
 QUERIES = [
     ("descendant::t2[child::t3 and not(following-sibling::*)]",
@@ -86,6 +98,25 @@ QUERIES = [
     ("/descendant-or-self::*/child::t5[not(ancestor::t6)]/following-sibling::t1",
      root(path(ANY, only(step("child", 5), no(some(step("ancestor", 6)))), step("following-sibling", 1)))),
 ]
+
+
+SAME = "the same"
+NO_WORDS = None
+# What is timed for all pairs: a query, how XPath 1.0 writes it (it has neither intersect nor except), and its entries.
+RELATIONS = [
+    ("child::*/descendant::t2/following::*/child::t3", SAME,
+     path(step("child"), step("descendant", 2), step("following"), step("child", 3))),
+    (".//child::t6[child::*]//child::t5", SAME,
+     path(step("self", 65534), ANY_NODE, only(step("child", 6), some(step("child"))), ANY_NODE, step("child", 5))),
+    ("descendant::* intersect following::t2/preceding::* except child::*", NO_WORDS,
+     without(intersect(step("descendant"), path(step("following", 2), step("preceding"))), step("child"))),
+    ("child::*/(descendant::* intersect child::*/(descendant::* except child::t2))", NO_WORDS,
+     path(step("child"), intersect(step("descendant"), path(step("child"), without(step("descendant"), step("child", 2)))))),
+    ("(child::* union following-sibling::*)/descendant::t2", "(child::* | following-sibling::*)/descendant::t2",
+     path(union(step("child"), step("following-sibling")), step("descendant", 2))),
+    ("(descendant::t2/following::*)[child::t3 or not(left::*)]", "(descendant::t2/following::*)[child::t3 or not(preceding-sibling::*)]",
+     only(path(step("descendant", 2), step("following")), either(some(step("child", 3)), no(some(step("left")))))),
+] + [(axis + "::*", {"right": "following-sibling::*[1]", "left": "preceding-sibling::*[1]"}.get(axis, SAME), step(axis)) for axis in AXES]
 
 
 def search(start, tag):
@@ -159,12 +190,19 @@ def query_array(name, tree, queries):
     return text + "static const struct query %s[] = {\n%s};\n" % (name, "".join(rows))
 
 
+def relation_array(tree):
+    """The queries whose pairs are all asked for, and the tables that they name."""
+    text = query_array("whole", tree, [(ours, entries, 0) for ours, _, entries in RELATIONS])
+    theirs = [ours if xpath is SAME else xpath for ours, xpath, _ in RELATIONS]
+    return text + "static const char *const whole_xpath[] = {%s};\n" % ", ".join('"%s"' % t if t else "NULL" for t in theirs)
+
+
 def header(table):
     tree, (due_next, due_tags) = Tree(table), index(table[1::2])
     text = "#define NODES %d\n" % tree.n + array("uint16_t", "tree", table)
     text += array("uint16_t", "due_next", due_next) + array("uint16_t", "due_tags", due_tags)
     text += query_array("queries", tree, [(xpath, entries, 0) for xpath, entries in QUERIES])
-    return text + query_array("searches", tree, searches(table))
+    return text + query_array("searches", tree, searches(table)) + relation_array(tree)
 
 
 different = sys.argv[1] == "--different"

@@ -3,15 +3,15 @@
  *
  * The engine answers Core XPath queries with intersect, except and node variables over trees of up to 256 nodes. Trees and
  * queries are lent to it as tables of 16-bit numbers, and gz_read makes the table of a query that is typed. gz_index makes the
- * index of a tree, by which gz_descendants finds the descendants with a tag. This page describes them, every function, and every
- * reply.
+ * index of a tree, by which gz_descendants finds the descendants with a tag. All pairs of a query are given a byte a pair by gz_pairs,
+ * and a bit a pair by gz_pairs_bits. This page describes them, every function, and every reply.
  *
  * To link: `./build` writes target/staticlib/libterminal.a, for x86-64 Linux.
  *
  *     cc -I include program.c target/staticlib/libterminal.a
  *
  * The archive defines the functions of section 11 and no other global symbol. It needs two functions of the C library, which
- * compilers call of their own accord: memcpy, memset. It has less than 56 KiB of code and constants, and has no variables.
+ * compilers call of their own accord: memcpy, memset. It has less than 72 KiB of code and constants, and has no variables.
  *
  * Contents:  1 For every call   2 Tree table   3 Query table   4 Node sets and relations   5 Answers, pages, cursors
  *            6 Name tables   7 Typed queries   8 Indexes   9 Numbers of refusal   10 Types   11 Functions
@@ -34,9 +34,11 @@
  * Threads. No function keeps anything between calls, and there is no global state: calls may run at the same time on any
  * number of threads, with the same tables too, so long as each has its own buffers and cursor.
  *
- * Stack. gz_check_tree, gz_check_query and gz_name take less than 1 KiB; gz_index, gz_descendants and gz_read, however deep its
- * text nests, take less than 4 KiB. The others take less than 8 KiB for a query of one level, and less than 4 KiB for each further
- * level of its nesting (section 3); there are 64 levels at most, so that no call takes 260 KiB.
+ * Stack. gz_check_tree, gz_check_query and gz_name take less than 1 KiB; gz_index, gz_descendants, gz_pack, gz_unpack and gz_read,
+ * however deep its text nests, take less than 4 KiB. gz_pairs_bits takes less than 56 KiB for every query, so that its stack and a
+ * relation of 256 nodes in bits, 8 KiB, take less than the 64 KiB of one in bytes; the worst shape that was measured takes 48,320
+ * bytes, and a run of steps less than 16 KiB. The others take less than 8 KiB for a query of one level, and less than 4 KiB for each
+ * further level of its nesting (section 3); there are 64 levels at most, so that no call takes 260 KiB.
  *
  * Everything is counted from 0. Numbers of tables are in the machine's own byte order.
  *
@@ -123,6 +125,18 @@
  * the set has the pair (x, y); the backward image has x exactly if some y of the set has the pair (x, y). The relation table
  * is n * n bytes: the byte at x * n + y is 1 if (x, y) is a pair, else 0. A result takes the first n or n * n bytes of its
  * buffer, and the bytes behind keep what they held. With an image comes its count, the number of nodes in it.
+ *
+ * The relation in bits is 4 n words of 64 bits, four a row, the lowest word and the lowest bit first: the pair (x, y) is bit y % 64
+ * of word 4 x + y / 64. Bits at and beyond n are 0. For 256 nodes it has 8 KiB where the bytes have 64. As a result it takes the
+ * first 4 n words of its buffer, and the words behind keep what they held. gz_pack and gz_unpack turn either form into the other, and
+ * nothing is lost.
+ *
+ *     child::* in the tree of section 2        uint64_t words[] = {0x12, 0, 0, 0,    from node 0 to 1 and 4
+ *                                                                  0x0c, 0, 0, 0,    from node 1 to 2 and 3
+ *                                                                  0,    0, 0, 0,
+ *                                                                  0,    0, 0, 0,
+ *                                                                  0x20, 0, 0, 0,    from node 4 to 5
+ *                                                                  0,    0, 0, 0};
  *
  *
  * 5  ANSWERS, PAGES, CURSORS
@@ -235,11 +249,12 @@
  *
  * A reply has number 0 and place 0 if the call is accepted. Else number says what is wrong and place where. Checks are made
  * in the order of the numbers, each over all that it looks at before the next begins; the first that fails is the reply, at
- * the lowest place that is at fault. Two functions have another order: gz_read 21, 23, 24, 25, 26, 20, and gz_descendants 5, 6, 7,
- * 36, 27, 20. Each function makes the checks that its description in section 11 names.
+ * the lowest place that is at fault. Three functions have another order: gz_read 21, 23, 24, 25, 26, 20, gz_descendants 5, 6, 7, 36,
+ * 27, 20, and gz_unpack 5, 18, 28, 20. Each function makes the checks that its description in section 11 names.
  *
  *      number   refused because                                                             place
- *       5       the tree table is empty, of odd length, or longer than 512 numbers          0
+ *       5       the tree table is empty, of odd length, or longer than 512 numbers; n is    0
+ *               told and is not 1 to 256
  *       6       node 0's parent is not 65535, or a later node's is neither the node         the node
  *               before it nor an ancestor of that node
  *       7       a node's tag is 65535, or it is 65534 and the node is not node 0            the node
@@ -256,10 +271,11 @@
  *      16       nodes_len is not columns                                                    0
  *      17       an assigned node, or one of the first `columns` numbers of a begun          the variable
  *               cursor, is not below n
- *      18       the node set is not n bytes long                                            0
- *      19       a byte of the node set is above 1                                           the byte
- *      20       a buffer has room for less than n bytes, n * n bytes, one row, the          0
- *               table of the typed query, the index, or the list of the tags
+ *      18       the node set is not n bytes long; the relation is not n * n bytes, or       0
+ *               4 n words, long
+ *      19       a byte of the node set, or of the relation, is above 1                      the byte
+ *      20       a buffer has room for less than n bytes, n * n bytes, 4 n words, one        0
+ *               row, the table of the typed query, the index, or the list of the tags
  *      21       a name table has a length byte of 0 or above 32, or a name that runs        0 the house's,
  *               past its end                                                                1 the site's
  *      22       the tag is above 65533 or has no name                                       0
@@ -273,6 +289,7 @@
  *      27       the index is not n numbers long                                             0
  *               a number that the chain reads is not 65535, and is not later than the       the node at which it
  *               node at which it is read, not below n, or of another tag                    is read
+ *      28       a bit of the relation at or beyond n is set                                 the row
  *      36       the start is not below n                                                    0
  *
  * Numbers 1 to 4 are of job files, which no function here reads.
@@ -288,7 +305,7 @@
    program that was written to the header before may break: another reply to the same call, a refusal of what was accepted or the
    reverse, another type, size or name. GZ_VERSION_MINOR is counted up where something is added and all else is as it was. */
 #define GZ_VERSION_MAJOR 3
-#define GZ_VERSION_MINOR 0
+#define GZ_VERSION_MINOR 1
 
 #ifdef __cplusplus
 extern "C" {
@@ -374,6 +391,23 @@ gz_image_reply gz_backwards(const uint16_t *tree, size_t tree_len, const uint16_
    they were; refused, all of `table` is. One evaluation for each of the n start nodes. */
 gz_reply gz_pairs(const uint16_t *tree, size_t tree_len, const uint16_t *query, size_t query_len, uint16_t columns,
                   const uint16_t *nodes, size_t nodes_len, uint8_t *table, size_t table_len);
+
+/* The same pairs in bits. words_len is 4 n or more; 1,024 words have room for every tree's. Refusals 5 to 17 and 20.
+   Accepted, the first 4 n words of `words` are the relation, the pair (x, y) as bit y % 64 of word 4 x + y / 64, and all later words
+   are as they were; refused, all of `words` is. Whole tables are combined: a step takes time in proportion to n, and a composition of
+   two paths that are no steps at most n * n, however the query nests. */
+gz_reply gz_pairs_bits(const uint16_t *tree, size_t tree_len, const uint16_t *query, size_t query_len, uint16_t columns,
+                       const uint16_t *nodes, size_t nodes_len, uint64_t *words, size_t words_len);
+
+/* A relation among n nodes, from bytes to bits. n is 1 to 256, table_len n * n, and words_len 4 n or more. Refusals 5, 18, 19 and
+   20. Accepted, the first 4 n words of `words` are the relation, and all later words are as they were; refused, all of `words` is.
+   Time in proportion to n * n. */
+gz_reply gz_pack(uint16_t n, const uint8_t *table, size_t table_len, uint64_t *words, size_t words_len);
+
+/* A relation among n nodes, from bits to bytes. n is 1 to 256, words_len 4 n, and table_len n * n or more. Refusals 5, 18, 28 and
+   20, in this order. Accepted, the first n * n bytes of `table` are the relation, and all later bytes are as they were; refused, all
+   of `table` is. What gz_pack made comes back as it was, and the reverse. Time in proportion to n * n. */
+gz_reply gz_unpack(uint16_t n, const uint64_t *words, size_t words_len, uint8_t *table, size_t table_len);
 
 /* The next page of answers. columns is 1 to 3, and rows has room for rows_len / columns rows, at least one. Refusals 5 to 15,
    17 and 20; 17 looks at the first `columns` numbers of a begun cursor only.

@@ -18,8 +18,8 @@ _Static_assert(offsetof(gz_index_reply, next) == 8 && offsetof(gz_index_reply, t
 _Static_assert(sizeof(gz_cursor) == 8 && offsetof(gz_cursor, begun) == 0 && offsetof(gz_cursor, last) == 2, "gz_cursor");
 _Static_assert(sizeof(gz_part) == 16 && offsetof(gz_part, start) == 0 && offsetof(gz_part, length) == 8, "gz_part");
 _Static_assert(sizeof(bool) == 1 && sizeof(size_t) == 8, "bool and size_t");
-#if GZ_VERSION_MAJOR != 3
-#error "this program is written to version 3 of the header"
+#if GZ_VERSION_MAJOR != 3 || GZ_VERSION_MINOR < 1
+#error "this program is written to version 3.1 of the header"
 #endif
 
 #define PATTERN 0xA5
@@ -275,6 +275,240 @@ static void relations(void)
     relation("a node for no variable", LENT(SLICE(child), 0, NUMBERS(1)), 36, 16, 0, "");
     relation("variable 0 at node 6", LENT(SLICE(pallets), 2, NUMBERS(6, 6)), 36, 17, 0, "");
     relation("room for 35 bytes", to_child, 35, 20, 0, "");
+}
+
+/* Pairs in bits, and the two forms of a relation turned into each other. Buffers stand in memory that is filled with the pattern, and
+   all of it is compared; what is only read is compared too. */
+
+static uint64_t words_memory[MARGIN + 1030 + MARGIN], words_wanted[LENGTH(words_memory)], words_lent[1100], words_before[1100];
+static uint8_t cells_memory[MARGIN + 65600 + MARGIN], cells_wanted[sizeof cells_memory], cells_lent[66000], cells_before[66000];
+
+static void fill_words(void)
+{
+    memset(words_memory, PATTERN, sizeof words_memory);
+    memset(words_wanted, PATTERN, sizeof words_wanted);
+}
+
+static void fill_cells(void)
+{
+    memset(cells_memory, PATTERN, sizeof cells_memory);
+    memset(cells_wanted, PATTERN, sizeof cells_wanted);
+}
+
+/* The n rows of n bytes, as bits. */
+static void put_bits(uint64_t *words, const uint8_t *cells, size_t n)
+{
+    memset(words, 0, 4 * n * sizeof *words);
+    for (size_t x = 0; x < n; x++)
+        for (size_t y = 0; y < n; y++)
+            if (cells[x * n + y] == 1)
+                words[4 * x + y / 64] += (uint64_t)1 << y % 64;
+}
+
+/* The result is written as digits, n rows of n. */
+static void bit_relation(const char *what, struct lent l, size_t room, uint16_t number, uint16_t place, const char *result)
+{
+    uint8_t cells[64];
+    fill_words();
+    if (bytes(cells, result) != 0)
+        put_bits(words_wanted + MARGIN, cells, l.tree_len / 2);
+    gz_reply r = gz_pairs_bits(l.tree, l.tree_len, l.query, l.query_len, l.columns, l.nodes, l.nodes_len,
+                               room == 0 ? NULL : words_memory + MARGIN, room);
+    expect(r.number == number && r.place == place, "gz_pairs_bits", what, "reply");
+    expect(memcmp(words_memory, words_wanted, sizeof words_memory) == 0, "gz_pairs_bits", what, "buffer");
+}
+
+static void bit_relations(void)
+{
+    struct lent to_child = LENT(SLICE(child), 0, NOTHING);
+    bit_relation("child::*", to_child, 24, 0, 0, "010010" "001100" "000000" "000000" "000001" "000000");
+    bit_relation("child::*, more room", to_child, 25, 0, 0, "010010" "001100" "000000" "000000" "000001" "000000");
+    bit_relation("child::*, the most room", to_child, 1024, 0, 0, "010010" "001100" "000000" "000000" "000001" "000000");
+    bit_relation("following::*", LENT(SLICE(following), 0, NOTHING), 50, 0, 0, "000000" "000011" "000111" "000011" "000000" "000000");
+    bit_relation("bay 4, pallet 5", LENT(SLICE(pallets), 2, NUMBERS(4, 5)), 24, 0, 0, "000001" "000000" "000000" "000000" "000000" "000000");
+    bit_relation("child::2[child::3 and not(right::*)]", LENT(SLICE(last_bay), 0, NOTHING), 24, 0, 0,
+                 "000010" "000000" "000000" "000000" "000000" "000000");
+    bit_relation("self::* intersect right::*", LENT(NUMBERS(0, 0, 0, 65535, 0, 3, 0, 65535, 3, 0, 1, 0), 0, NOTHING), 24, 0, 0,
+                 "000000" "000000" "000000" "000000" "000000" "000000");
+    bit_relation("descendant::* except child::*", LENT(NUMBERS(0, 5, 0, 65535, 0, 1, 0, 65535, 4, 0, 1, 0), 0, NOTHING), 24, 0, 0,
+                 "001101" "000000" "000000" "000000" "000000" "000000");
+    bit_relation("(child::* union right::*)/child::3",
+                 LENT(NUMBERS(0, 1, 0, 65535, 0, 3, 0, 65535, 2, 0, 1, 0, 0, 1, 0, 3, 1, 2, 3, 0), 0, NOTHING), 24, 0, 0,
+                 "001101" "000001" "000000" "000000" "000000" "000000");
+    bit_relation("child::* except (right::* union child::*/self::2)",
+                 LENT(NUMBERS(0, 1, 0, 65535, 0, 3, 0, 65535, 0, 1, 0, 65535, 0, 0, 0, 2, 1, 2, 3, 0, 2, 1, 4, 0, 4, 0, 5, 0), 0, NOTHING),
+                 24, 0, 0, "000000" "001100" "000000" "000000" "000001" "000000");
+    bit_relation("(descendant::* except child::*)/left::*",
+                 LENT(NUMBERS(0, 5, 0, 65535, 0, 1, 0, 65535, 4, 0, 1, 0, 0, 4, 0, 65535, 1, 2, 3, 0), 0, NOTHING), 24, 0, 0,
+                 "001000" "000000" "000000" "000000" "000000" "000000");
+    bit_relation("((self::* union child::*) intersect descendant-or-self::2)/child::*",
+                 LENT(NUMBERS(0, 0, 0, 65535, 0, 1, 0, 65535, 2, 0, 1, 0, 0, 11, 0, 2, 3, 2, 3, 0, 0, 1, 0, 65535, 1, 4, 5, 0), 0, NOTHING),
+                 24, 0, 0, "001101" "001100" "000000" "000000" "000001" "000000");
+    bit_relation("/child::2", LENT(NUMBERS(0, 1, 0, 2, 7, 0, 0, 0), 0, NOTHING), 24, 0, 0,
+                 "010010" "010010" "010010" "010010" "010010" "010010");
+    bit_relation("$0", LENT(NUMBERS(6, 0, 0, 0), 1, NUMBERS(3)), 24, 0, 0, "000100" "000100" "000100" "000100" "000100" "000100");
+    bit_relation("self::* in one node", ON(NUMBERS(65535, 1), NUMBERS(0, 0, 0, 65535), 0, NOTHING), 4, 0, 0, "1");
+    bit_relation("parent::* in one node", ON(NUMBERS(65535, 1), NUMBERS(0, 2, 0, 65535), 0, NOTHING), 5, 0, 0, "0");
+    bit_relation("parent::*", ON(SLICE(document), NUMBERS(0, 2, 0, 65535), 0, NOTHING), 28, 0, 0,
+                 "0000000" "0000000" "0100000" "0010000" "0010000" "0100000" "0000010");
+    bit_relation("parent::node()", ON(SLICE(document), NUMBERS(0, 2, 0, 65534), 0, NOTHING), 28, 0, 0,
+                 "0000000" "1000000" "0100000" "0010000" "0010000" "0100000" "0000010");
+
+    bit_relation("no tree", ON(NOTHING, SLICE(child), 0, NOTHING), 24, 5, 0, "");
+    bit_relation("half a node", ON(warehouse, 11, SLICE(child), 0, NOTHING), 24, 5, 0, "");
+    bit_relation("a bad parent", ON(NUMBERS(65535, 1, 1, 2), SLICE(child), 0, NOTHING), 24, 6, 1, "");
+    bit_relation("a bad tag", ON(NUMBERS(65535, 1, 0, 65535), SLICE(child), 0, NOTHING), 24, 7, 1, "");
+    bit_relation("no query", LENT(NOTHING, 0, NOTHING), 24, 8, 0, "");
+    bit_relation("4 variables", LENT(SLICE(pallets), 4, NUMBERS(1, 2, 3, 4)), 24, 9, 0, "");
+    bit_relation("kind 13", LENT(NUMBERS(13, 0, 0, 0), 0, NOTHING), 24, 10, 0, "");
+    bit_relation("a bad query", LENT(NUMBERS(0, 1, 1, 2), 0, NOTHING), 24, 11, 0, "");
+    bit_relation("an operand that is its own entry", LENT(NUMBERS(7, 0, 0, 0), 0, NOTHING), 24, 12, 0, "");
+    bit_relation("not of a path", LENT(NUMBERS(0, 1, 0, 2, 9, 0, 0, 0), 0, NOTHING), 24, 13, 1, "");
+    bit_relation("an operand used twice", LENT(NUMBERS(0, 1, 0, 2, 1, 0, 0, 0), 0, NOTHING), 24, 14, 0, "");
+    bit_relation("a node expression", LENT(NUMBERS(12, 0, 0, 0), 1, NUMBERS(0)), 24, 15, 0, "");
+    bit_relation("a node for no variable", LENT(SLICE(child), 0, NUMBERS(1)), 24, 16, 0, "");
+    bit_relation("variable 0 at node 6", LENT(SLICE(pallets), 2, NUMBERS(6, 6)), 24, 17, 0, "");
+    bit_relation("variable 1 at node 6, and no room", LENT(SLICE(pallets), 2, NUMBERS(5, 6)), 0, 17, 1, "");
+    bit_relation("room for 23 words", to_child, 23, 20, 0, "");
+    bit_relation("no room", to_child, 0, 20, 0, "");
+}
+
+static void packing(const char *what, uint16_t n, size_t length, size_t room, uint16_t number, uint16_t place)
+{
+    fill_words();
+    memcpy(cells_before, cells_lent, sizeof cells_lent);
+    if (number == 0)
+        put_bits(words_wanted + MARGIN, cells_lent, n);
+    gz_reply r = gz_pack(n, length == 0 ? NULL : cells_lent, length, room == 0 ? NULL : words_memory + MARGIN, room);
+    expect(r.number == number && r.place == place, "gz_pack", what, "reply");
+    expect(memcmp(words_memory, words_wanted, sizeof words_memory) == 0, "gz_pack", what, "buffer");
+    expect(memcmp(cells_lent, cells_before, sizeof cells_lent) == 0, "gz_pack", what, "table");
+}
+
+/* The bytes that are due stand in cells_lent. */
+static void unpacking(const char *what, uint16_t n, size_t length, size_t room, uint16_t number, uint16_t place)
+{
+    fill_cells();
+    memcpy(words_before, words_lent, sizeof words_lent);
+    if (number == 0)
+        memcpy(cells_wanted + MARGIN, cells_lent, (size_t)n * n);
+    gz_reply r = gz_unpack(n, length == 0 ? NULL : words_lent, length, room == 0 ? NULL : cells_memory + MARGIN, room);
+    expect(r.number == number && r.place == place, "gz_unpack", what, "reply");
+    expect(memcmp(cells_memory, cells_wanted, sizeof cells_memory) == 0, "gz_unpack", what, "buffer");
+    expect(memcmp(words_lent, words_before, sizeof words_lent) == 0, "gz_unpack", what, "table");
+}
+
+/* Every size: a table of bytes there and back, and each refusal for its length, its room and, where there is room for it, a stray
+   bit in the first, a middle and the last row, at n, at the last bit of n's word and at the last bit of all. */
+static void conversions_of(uint16_t n)
+{
+    size_t square = (size_t)n * n, four = 4 * (size_t)n;
+    memset(cells_lent, 1, sizeof cells_lent);
+    for (size_t i = 0; i < square; i++)
+        cells_lent[i] = (i * i / 7 + i / n) % 3 == 0;
+    memset(words_lent, 0xFF, sizeof words_lent);
+    put_bits(words_lent, cells_lent, n);
+    packing("there", n, square, four, 0, 0);
+    packing("there, more room", n, square, four + 3, 0, 0);
+    unpacking("back", n, four, square, 0, 0);
+    unpacking("back, more room", n, four, square + 3, 0, 0);
+    packing("a byte less", n, square - 1, four, 18, 0);
+    packing("a byte more", n, square + 1, four, 18, 0);
+    unpacking("a word less", n, four - 1, square, 18, 0);
+    unpacking("a word more", n, four + 1, square, 18, 0);
+    packing("a word too little", n, square, four - 1, 20, 0);
+    unpacking("a byte too little", n, four, square - 1, 20, 0);
+
+    static const uint8_t high[] = {2, 3, 128, 255};
+    size_t at[] = {0, square / 2, square - 1};
+    for (int i = 2; i >= 0; i--) {
+        cells_lent[at[i]] = high[i];
+        packing("a high byte", n, square, i == 1 ? 0 : four, 19, (uint16_t)at[i]);
+    }
+    size_t row[] = {0, n / 2, n - 1u}, bit[] = {n, n | 63u, 255};
+    for (int i = 2; n < 256 && i >= 0; i--)
+        for (int j = 0; j < 3; j++)
+            if (bit[j] >= n) {
+                words_lent[4 * row[i] + bit[j] / 64] |= (uint64_t)1 << bit[j] % 64;
+                unpacking("a stray bit", n, four, j == 1 ? 0 : square, 28, (uint16_t)row[i]);
+            }
+}
+
+/* Where a pair stands, said without a formula: pairs of 256 nodes, and of 65. */
+static void pairs_by_hand(void)
+{
+    static const struct {
+        uint16_t n;
+        size_t cell, word;
+        uint64_t bits;
+    } pairs[] = {{256, 0, 0, 1},           {256, 63, 0, 0x8000000000000000}, {256, 64, 1, 1},    {256, 191, 2, 0x8000000000000000},
+                 {256, 192, 3, 1},         {256, 255, 3, 0x8000000000000000}, {256, 256, 4, 1},   {256, 65535, 1023, 0x8000000000000000},
+                 {65, 1, 0, 2},            {65, 63, 0, 0x8000000000000000},   {65, 64, 1, 1},     {65, 65, 4, 1},
+                 {65, 4224, 257, 1},       {1, 0, 0, 1},                      {2, 3, 4, 2}};
+    for (size_t i = 0; i < LENGTH(pairs); i++) {
+        uint16_t n = pairs[i].n;
+        memset(cells_lent, 0, sizeof cells_lent);
+        memset(words_lent, 0, sizeof words_lent);
+        cells_lent[pairs[i].cell] = 1;
+        words_lent[pairs[i].word] = pairs[i].bits;
+        gz_reply r = gz_pack(n, cells_lent, (size_t)n * n, words_memory, 4 * (size_t)n);
+        expect(r.number == 0 && r.place == 0, "gz_pack", "one pair", "reply");
+        expect(memcmp(words_memory, words_lent, 32 * (size_t)n) == 0, "gz_pack", "one pair", "word");
+        unpacking("one pair", n, 4 * (size_t)n, (size_t)n * n, 0, 0);
+    }
+}
+
+static void conversions(void)
+{
+    pairs_by_hand();
+    static const uint16_t sizes[] = {1, 2, 3, 6, 31, 63, 64, 65, 100, 127, 128, 129, 191, 192, 193, 200, 254, 255, 256};
+    for (size_t i = 0; i < LENGTH(sizes); i++)
+        conversions_of(sizes[i]);
+    static const uint16_t wrong[] = {0, 257, 258, 512, 1024, 65535};
+    for (size_t i = 0; i < LENGTH(wrong); i++) {
+        packing("a wrong n", wrong[i], 65536, 1024, 5, 0);
+        packing("a wrong n, no table and no room", wrong[i], 0, 0, 5, 0);
+        unpacking("a wrong n", wrong[i], 1024, 65536, 5, 0);
+        unpacking("a wrong n, no table and no room", wrong[i], 0, 0, 5, 0);
+    }
+
+    /* the order of the checks: 18 before 19 and 28, and both before 20 */
+    memset(cells_lent, 2, sizeof cells_lent);
+    memset(words_lent, 0xFF, sizeof words_lent);
+    packing("no table", 6, 0, 24, 18, 0);
+    packing("a length before a byte", 6, 35, 0, 18, 0);
+    packing("a byte before the room", 6, 36, 0, 19, 0);
+    unpacking("no table", 6, 0, 36, 18, 0);
+    unpacking("a length before a stray bit", 6, 23, 0, 18, 0);
+    unpacking("a stray bit before the room", 6, 24, 0, 28, 0);
+    unpacking("256 nodes have no stray bits, but no room", 256, 1024, 65535, 20, 0);
+}
+
+/* As large as a tree may be, a chain: from each node to all below it. What gz_pairs and gz_pairs_bits leave are two forms of one
+   relation, and gz_pack and gz_unpack turn either into the other. */
+static void both_forms(void)
+{
+    uint16_t chain[512];
+    for (uint16_t x = 0; x < 256; x++)
+        chain[2 * x] = x == 0 ? 65535 : x - 1, chain[2 * x + 1] = x % 3;
+    for (size_t n = 1; n <= 256; n += n < 60 ? 59 : 1) {
+        struct lent l = ON(chain, 2 * n, NUMBERS(0, 5, 0, 65535), 0, NOTHING);
+        fill_words();
+        for (size_t x = 0; x < n; x++)
+            for (size_t y = 0; y < n; y++)
+                cells_lent[x * n + y] = x < y;
+        put_bits(words_wanted + MARGIN, cells_lent, n);
+        gz_reply r = gz_pairs_bits(l.tree, l.tree_len, l.query, l.query_len, 0, NULL, 0, words_memory + MARGIN, 1030);
+        expect(r.number == 0 && r.place == 0, "gz_pairs_bits", "a chain", "reply");
+        expect(memcmp(words_memory, words_wanted, sizeof words_memory) == 0, "gz_pairs_bits", "a chain", "buffer");
+        fill_cells();
+        memcpy(cells_wanted + MARGIN, cells_lent, n * n);
+        gz_pairs(l.tree, l.tree_len, l.query, l.query_len, 0, NULL, 0, cells_memory + MARGIN, n * n);
+        expect(memcmp(cells_memory, cells_wanted, sizeof cells_memory) == 0, "gz_pairs", "a chain", "buffer");
+        memcpy(words_lent, words_wanted + MARGIN, 4 * n * sizeof *words_lent);
+        packing("a chain", (uint16_t)n, n * n, 4 * n, 0, 0);
+        unpacking("a chain", (uint16_t)n, 4 * n, n * n, 0, 0);
+    }
 }
 
 /* Pages. The cursor is moved on from call to call. */
@@ -1022,6 +1256,9 @@ int main(void)
     images();
     counts();
     relations();
+    bit_relations();
+    conversions();
+    both_forms();
     pages();
     names();
     typed();

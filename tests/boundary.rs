@@ -87,6 +87,12 @@ extern "C" {
         tree: *const u16, tree_len: usize, query: *const u16, query_len: usize, columns: u16, nodes: *const u16,
         nodes_len: usize, table: *mut u8, table_len: usize,
     ) -> Reply;
+    fn gz_pairs_bits(
+        tree: *const u16, tree_len: usize, query: *const u16, query_len: usize, columns: u16, nodes: *const u16,
+        nodes_len: usize, words: *mut u64, words_len: usize,
+    ) -> Reply;
+    fn gz_pack(n: u16, table: *const u8, table_len: usize, words: *mut u64, words_len: usize) -> Reply;
+    fn gz_unpack(n: u16, words: *const u64, words_len: usize, table: *mut u8, table_len: usize) -> Reply;
     fn gz_page(
         tree: *const u16, tree_len: usize, query: *const u16, query_len: usize, columns: u16, cursor: *mut Cursor,
         rows: *mut u16, rows_len: usize,
@@ -130,6 +136,21 @@ fn pairs(query: &[u16], nodes: &[u16], table: &mut [u8]) -> Reply {
     unsafe {
         gz_pairs(t.as_ptr(), t.len(), q.as_ptr(), q.len(), nodes.len() as u16, nodes.as_ptr(), nodes.len(), table.as_mut_ptr(), table.len())
     }
+}
+
+fn pairs_bits(tree: &[u16], query: &[u16], nodes: &[u16], words: &mut [u64]) -> Reply {
+    let (t, q) = (tree, query);
+    unsafe {
+        gz_pairs_bits(t.as_ptr(), t.len(), q.as_ptr(), q.len(), nodes.len() as u16, nodes.as_ptr(), nodes.len(), words.as_mut_ptr(), words.len())
+    }
+}
+
+fn pack(n: u16, table: &[u8], words: &mut [u64]) -> Reply {
+    unsafe { gz_pack(n, table.as_ptr(), table.len(), words.as_mut_ptr(), words.len()) }
+}
+
+fn unpack(n: u16, words: &[u64], table: &mut [u8]) -> Reply {
+    unsafe { gz_unpack(n, words.as_ptr(), words.len(), table.as_mut_ptr(), table.len()) }
 }
 
 fn page(query: &[u16], columns: u16, cursor: &mut Cursor, rows: &mut [u16]) -> PageReply {
@@ -207,6 +228,50 @@ fn main() {
     }
     children[36..].fill(7);
     assert_eq!(table, children);
+
+    // the same pairs in bits, and both forms turned into each other
+    let mut words = [7; 26];
+    assert_eq!(pairs_bits(&WAREHOUSE[..11], &CHILD, &[], &mut words), refused(5, 0));
+    assert_eq!(pairs_bits(&[65535, 1, 1, 2], &CHILD, &[], &mut words), refused(6, 1));
+    assert_eq!(pairs_bits(&WAREHOUSE, &[0, 13, 0, 1], &[], &mut words), refused(11, 0));
+    assert_eq!(pairs_bits(&WAREHOUSE, &PALLETS, &[1, 6], &mut words), refused(17, 1));
+    assert_eq!(pairs_bits(&WAREHOUSE, &CHILD, &[], &mut words[..23]), refused(20, 0));
+    assert_eq!(words, [7; 26]);
+    assert_eq!(pairs_bits(&WAREHOUSE, &CHILD, &[], &mut words), ACCEPTED);
+    let mut children_bits = [0; 26];
+    for (x, row) in [(0, 0b010010), (1, 0b001100), (4, 0b100000)] {
+        children_bits[4 * x] = row;
+    }
+    children_bits[24..].fill(7);
+    assert_eq!(words, children_bits);
+    assert_eq!(pairs_bits(&WAREHOUSE, &PALLETS, &[1, 3], &mut words[..24]), ACCEPTED);
+    assert_eq!((words[0], &words[1..24], &words[24..]), (8, &[0; 23][..], &[7; 2][..]));
+
+    let mut words = [7; 26];
+    assert_eq!(pack(6, &table[..36], &mut words), ACCEPTED);
+    assert_eq!(words, children_bits);
+    let mut back = [9; 38];
+    assert_eq!(unpack(6, &words[..24], &mut back), ACCEPTED);
+    assert_eq!((&back[..36], &back[36..]), (&table[..36], &[9; 2][..]));
+    let mut words = [7; 26];
+    assert_eq!(pack(0, &table[..36], &mut words), refused(5, 0));
+    assert_eq!(pack(257, &table[..36], &mut words), refused(5, 0));
+    assert_eq!(pack(6, &table[..35], &mut words), refused(18, 0));
+    assert_eq!(pack(6, &table[2..], &mut words), refused(19, 34));
+    assert_eq!(pack(6, &table[..36], &mut words[..23]), refused(20, 0));
+    assert_eq!(pack(6, &[], &mut []), refused(18, 0));
+    assert_eq!(words, [7; 26]);
+    let mut bits = children_bits;
+    let mut back = [9; 38];
+    assert_eq!(unpack(0, &bits[..24], &mut back), refused(5, 0));
+    assert_eq!(unpack(257, &bits[..24], &mut back), refused(5, 0));
+    assert_eq!(unpack(6, &bits[..25], &mut back), refused(18, 0));
+    assert_eq!(unpack(6, &bits[..24], &mut back[..35]), refused(20, 0));
+    bits[23] = 1;
+    assert_eq!(unpack(6, &bits[..24], &mut back[..35]), refused(28, 5));
+    bits[8] = 64;
+    assert_eq!(unpack(6, &bits[..24], &mut back), refused(28, 2));
+    assert_eq!(back, [9; 38]);
 
     let mut cursor = Cursor { begun: 0, last: [0, 0, 9] };
     let mut rows = [7; 5];

@@ -1,7 +1,9 @@
 /* The stack that a call takes is as include/geznauri.h has it: less than 1 KiB for a check and a name, less than 4 KiB where a typed
-   query is read, an index is made or followed, less than 8 KiB for a query of one level, and less than 4 KiB for each further level
-   of nesting. Calls run on a stack that was filled with a pattern; how much of the pattern is gone, less what a thread takes that
-   calls nothing, is what the call took. The tree of queries has one node: frames are of one size for all trees. */
+   query is read, an index is made or followed, or a relation turned from bytes to bits or back, less than 8 KiB for a query of one
+   level, and less than 4 KiB for each further level of nesting. Pairs in bits take so little for every query that stack and table
+   together are smaller than a table of bytes. Calls run on a stack that was filled with a pattern; how much of the pattern is gone,
+   less what a thread takes that calls nothing, is what the call took. The tree of queries has one node: frames are of one size for all
+   trees; for pairs in bits it has 256, as has what is turned. */
 #define _GNU_SOURCE
 #include "geznauri.h"
 #include <pthread.h>
@@ -54,6 +56,25 @@ static void *evaluations(void *unused)
     accepted(gz_backwards(tree, 2, query, 4 * entries, 1, nodes, 1, from, 1, to, 1).number);
     accepted(gz_pairs(tree, 2, query, 4 * entries, 1, nodes, 1, to, 1).number);
     accepted(gz_page(tree, 2, query, 4 * entries, 1, &cursor, rows, 1).number);
+    return unused;
+}
+
+/* Pairs in bits of the largest tree, and the largest table turned. */
+static uint16_t large[512];
+static uint64_t words[1024];
+static uint8_t cells[65536];
+
+static void *bits(void *unused)
+{
+    uint16_t nodes[1] = {0};
+    accepted(gz_pairs_bits(large, 512, query, 4 * entries, 1, nodes, 1, words, 1024).number);
+    return unused;
+}
+
+static void *turned(void *unused)
+{
+    accepted(gz_pack(256, cells, 65536, words, 1024).number);
+    accepted(gz_unpack(256, words, 1024, cells, 65536).number);
     return unused;
 }
 
@@ -127,6 +148,19 @@ static void at_most(const char *what, size_t expected)
         wrong = 1;
 }
 
+/* The most that pairs in bits took. With the caller's table, which is lent, it stays below the table of bytes. */
+static size_t most_bits;
+
+static void in_bits(const char *what)
+{
+    size_t took = taken(bits) - taken(nothing);
+    printf("%s, %zu entries, in bits: %zu bytes\n", what, entries, took);
+    if (took > most_bits)
+        most_bits = took;
+    if (took + sizeof words >= sizeof cells)
+        wrong = 1;
+}
+
 /* A text of some times a piece, a middle, and as many times the piece that closes it. */
 static void nested(const char *open, size_t times, const char *middle, const char *close, uint16_t reply)
 {
@@ -154,6 +188,157 @@ static void indexed(uint16_t tags)
         wrong = 1;
 }
 
+/* Steps, all axes in turn; how many there are is told. */
+static void steps(uint16_t count)
+{
+    entries = 0;
+    for (uint16_t e = 0; e < count; e++)
+        entry(0, e % 13, 0, e % 3 == 0 ? 65535 : 1);
+}
+
+/* So many more steps, a power of two, joined two by two until one path is left. */
+static void balanced(uint16_t leaves, uint16_t kind)
+{
+    uint16_t first = (uint16_t)entries;
+    for (uint16_t i = 0; i < leaves; i++)
+        entry(0, i % 13, 0, i % 3 == 0 ? 65535 : 1);
+    for (; first + 1u < entries; first += 2)
+        entry(kind, first, first + 1, 0);
+}
+
+/* The entries that are left become levels over the last path: paths from the root; a filter with nots around the path; or filters in
+   filters, each with a composition. */
+static void deepen(int form)
+{
+    while (form == 0 && entries < 64)
+        entry(7, (uint16_t)(entries - 1), 0, 0);
+    while (form == 2 && entries + 5 <= 64) {
+        uint16_t path = (uint16_t)(entries - 1);
+        entry(0, 5, 0, 65535);
+        entry(1, path, path + 1, 0);
+        entry(8, path + 2, 0, 0);
+        entry(0, 11, 0, 65535);
+        entry(5, path + 4, path + 3, 0);
+    }
+    if (form == 1 && entries + 3 <= 64) {
+        entry(8, (uint16_t)(entries - 1), 0, 0);
+        while (entries < 62)
+            entry(9, (uint16_t)(entries - 1), 0, 0);
+        entry(0, 1, 0, 65535);
+        entry(5, 62, 61, 0);
+    }
+}
+
+/* The shapes that keep most tables or nest deepest: 64 entries, or as many as the shape has. Each is tried bare and from the root. */
+static void shapes_in_bits(void)
+{
+    /* every node hangs below the node before it, but every third below the root */
+    for (uint16_t x = 0; x < 256; x++)
+        large[2 * x] = x == 0 ? 65535 : x % 3 == 1 ? 0 : x - 1, large[2 * x + 1] = 1;
+    for (uint16_t kind = 1; kind <= 4; kind++) {
+        static const char *const names[] = {"compositions", "unions", "intersections", "differences"};
+        printf("%s: ", names[kind - 1]);
+        entries = 0;
+        balanced(32, kind);
+        in_bits("balanced");
+        entry(7, (uint16_t)(entries - 1), 0, 0);
+        printf("%s: ", names[kind - 1]);
+        in_bits("balanced, from the root");
+        for (int side = 0; side < 2; side++) {
+            steps(32);
+            for (uint16_t i = 0; i < 31; i++) {
+                uint16_t before = 31 + i, next = 30 - i;
+                entry(kind, side ? next : before, side ? before : next, 0);
+            }
+            printf("%s: ", names[kind - 1]);
+            in_bits(side ? "rightwards" : "leftwards");
+        }
+        /* a filter at every join, with the joins before it inside: each filter holds a path of two operands */
+        entries = 0;
+        entry(0, 1, 0, 65535);
+        while (entries + 5 <= 64) {
+            uint16_t path = (uint16_t)(entries - 1);
+            entry(0, 5, 0, 65535);
+            entry(kind, path, path + 1, 0);
+            entry(8, path + 2, 0, 0);
+            entry(0, 11, 0, 65535);
+            entry(5, path + 4, path + 3, 0);
+        }
+        printf("%s: ", names[kind - 1]);
+        in_bits("in nested filters");
+    }
+
+    /* in balance, with another kind at each level than at the one below it */
+    steps(32);
+    for (uint16_t first = 0, e = 0; first + 1u < entries; first += 2, e++)
+        entry((uint16_t)(1 + (e < 16 ? 0 : e < 24 ? 1 : e < 28 ? 3 : e < 30 ? 2 : 0)), first, first + 1, 0);
+    in_bits("balanced, all kinds");
+
+    /* filters in filters, a path from the root in 63 entries over it, and nots */
+    entries = 0;
+    entry(12, 0, 0, 0);
+    while (entries + 3 <= 63) {
+        uint16_t test = (uint16_t)(entries - 1);
+        entry(0, 1, 0, 65535);
+        entry(5, test + 1, test, 0);
+        entry(8, test + 2, 0, 0);
+    }
+    entry(0, 1, 0, 65535);
+    entry(5, (uint16_t)(entries - 1), (uint16_t)(entries - 2), 0);
+    in_bits("filters in filters");
+    entries = 0;
+    entry(0, 5, 0, 65535);
+    for (uint16_t e = 1; e < 64; e++)
+        entry(7, e - 1, 0, 0);
+    in_bits("from the root");
+    entries = 0;
+    entry(0, 1, 0, 65535);
+    entry(8, 0, 0, 0);
+    for (uint16_t e = 2; e < 62; e++)
+        entry(9, e - 1, 0, 0);
+    entry(0, 1, 0, 65535);
+    entry(5, 62, 61, 0);
+    in_bits("not");
+    /* and and or, in balance over 'is' */
+    entries = 0;
+    for (int i = 0; i < 31; i++)
+        entry(12, 0, 0, 0);
+    for (uint16_t first = 0; first + 1u < entries && entries < 61; first += 2)
+        entry(10 + first / 2 % 2, first, first + 1, 0);
+    entry(0, 5, 0, 65535);
+    entry(5, (uint16_t)(entries - 1), (uint16_t)(entries - 2), 0);
+    in_bits("and, or");
+    /* some tables kept aside, and as many levels as there are entries left */
+    for (uint16_t leaves = 1; leaves <= 32; leaves *= 2)
+        for (int form = 0; form < 3; form++) {
+            static const char *const names[] = {"from the root", "not", "filters in filters"};
+            entries = 0;
+            balanced(leaves, 2);
+            deepen(form);
+            printf("%u leaves in balance: ", leaves);
+            in_bits(names[form]);
+        }
+    /* four tables kept aside while a filter with nots in it, on either side of them, is evaluated */
+    for (int side = 0; side < 2; side++) {
+        steps(1);
+        entry(8, 0, 0, 0);
+        while (entries < 32)
+            entry(9, (uint16_t)(entries - 1), 0, 0);
+        entry(0, 1, 0, 65535);
+        entry(5, 32, 31, 0);
+        for (uint16_t leaves = 1; leaves <= 8; leaves *= 2) {
+            uint16_t path = (uint16_t)(entries - 1);
+            balanced(leaves, 2);
+            uint16_t other = (uint16_t)(entries - 1);
+            entry(2, side ? other : path, side ? path : other, 0);
+        }
+        in_bits(side ? "not on the right of unions" : "not on the left of unions");
+    }
+    steps(1);
+    in_bits("one step");
+    printf("in bits at most %zu bytes\n", most_bits);
+}
+
 int main(void)
 {
     nested("", 0, ".", "", 0);
@@ -172,6 +357,12 @@ int main(void)
     indexed(1);
     indexed(2);
     indexed(256);
+
+    shapes_in_bits();
+    size_t took = taken(turned) - taken(nothing);
+    printf("a relation turned: %zu bytes\n", took);
+    if (took >= 4096)
+        wrong = 1;
 
     /* every axis, with a tag, with node() and with the star */
     static const uint16_t tests[] = {1, 65534, 65535};

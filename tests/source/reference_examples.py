@@ -1,11 +1,11 @@
 #!/usr/bin/env python3
-"""The examples of docs/REFERENCE.md are right by tests/support/reference.py: what stands on each axis, the index, the job file byte
-for byte, and what the program prints for it. The worked readings and refusals of typed queries are lines of tests/boundary.c, which
-holds the library to them."""
+"""The examples of docs/REFERENCE.md are right by tests/support/reference.py: what stands on each axis, a relation as bytes and as
+bits, the index, the job file byte for byte, and what the program prints for it. The worked readings and refusals of typed queries are
+lines of tests/boundary.c, which holds the library to them."""
 import itertools, os, re, struct, sys
 sys.dont_write_bytecode = True
 sys.path.insert(0, os.path.join(os.path.dirname(__file__), "..", "support"))
-from reference import Tree, nodes_of, relation
+from reference import Tree, nodes_of, relation, words
 from repository import end, read
 
 text = read("docs/REFERENCE.md")
@@ -36,6 +36,11 @@ for code, *columns in axes:
     for start, column in zip((1, 4), columns):
         if [int(y) for y in column.split()] != nodes_of(tree.axes[int(code)][start]):
             problems.append("axis %s from node %d is not %s" % (code, start, column.strip()))
+rows = re.findall(r"^from (\d)((?:  +[01](?: [01]){5}))((?: +\d+){4})$", block("Node sets and relations", 0), re.M)
+drawn = [[int(w) for row in rows for w in row[form].split()] for form in (1, 2)]
+pairs = relation(tree, [0, 1, 0, 65535])
+if drawn != [[row >> y & 1 for row in pairs for y in range(tree.n)], words(pairs)] or [int(row[0]) for row in rows] != list(range(tree.n)):
+    problems.append("the relation of child::* is not the warehouse's, as bytes or as bits")
 index, tag_list = [[int(w) for w in part.split()] for part in re.search(r"^index (.*)list (.*)$", block("The index", 0), re.M).groups()]
 tags = table[1::2]
 later = lambda x: next((y for y in range(x + 1, tree.n) if tags[y] == tags[x]), 65535)

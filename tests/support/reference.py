@@ -98,6 +98,11 @@ def relation(tree, query, assignment=()):
     return evaluated(tree, query, assignment)[-1]
 
 
+def words(pairs):
+    """A relation in bits: four words of 64 bits for each node, the lowest first."""
+    return [row >> 64 * k & (1 << 64) - 1 for row in pairs for k in range(4)]
+
+
 def image(pairs, start):
     """The set that a set reaches by a relation."""
     reached = 0

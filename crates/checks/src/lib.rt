@@ -97,7 +97,7 @@ fn has_bad_byte(from: &[u8]) -> bool
 }
 
 // The lowest byte above 1, or the number of bytes. It is searched for only where there is one.
-fn lowest_bad_byte(from: &[u8]) -> usize
+pub fn lowest_bad_byte(from: &[u8]) -> usize
     ensures { λ r. ⌜ r ≡ lowest (length (now (from .entry))) (badByte (now (from .entry))) ⌝ }
 {
     let n = from.len();
@@ -145,7 +145,7 @@ pub fn check_room(room: usize, needed: usize) -> model::Reply
 // The checks of the services, each with what it is lent.
 
 // The checks 5 to 17.
-fn check_tables(tree: &[u16], query: &[u16], columns: usize, nodes: &[u16]) -> model::Reply
+pub fn check_tables(tree: &[u16], query: &[u16], columns: usize, nodes: &[u16]) -> model::Reply
     ensures { λ r. ⌜ r ≡ verdict (tableChecks (now (tree .entry)) (now (query .entry)) columns (now (nodes .entry))) ⌝ }
 {
     let t = tree::check_tree(tree);

@@ -52,7 +52,7 @@ module _ (n : ℕ) (le : n ≤ 256) (back : Bool) (s to o : List ℕ) where
 
 -- an entry by what it is read as
 
-small : {t v q nodes : List ℕ} → Ready t v q nodes → sizeOf t ≤ 256
+pub small : {t v q nodes : List ℕ} → Ready t v q nodes → sizeOf t ≤ 256
 small ok = ok .linked .tree .sound .at-most
 
 -- the relation of the path at entry l
@@ -69,16 +69,16 @@ module _ (t q nodes : List ℕ) (e : ℕ) where
   as-expr p h = rw h
 
 module _ {t v q nodes : List ℕ} {e : ℕ} {f : Entry} (fe : f ≡ entry q e) (ok : Ready t v q nodes) (em : e < entriesOf q) where
-  path-left : leftPath (f .kind) ≡ true → left q e < e
+  pub path-left : leftPath (f .kind) ≡ true → left q e < e
   path-left h = rw fe at (left-path fe ok em h .lower)
 
   path-right : rightPath (f .kind) ≡ true → right q e < e
   path-right h = rw fe at (right-path fe ok em h .lower)
 
-  expr-left : leftExpr (f .kind) ≡ true → left q e < e
+  pub expr-left : leftExpr (f .kind) ≡ true → left q e < e
   expr-left h = rw fe at (left-expr fe ok em h .lower)
 
-  expr-right : rightExpr (f .kind) ≡ true → right q e < e
+  pub expr-right : rightExpr (f .kind) ≡ true → right q e < e
   expr-right h = rw fe at (right-expr fe ok em h .lower)
 
   -- paths
@@ -87,7 +87,7 @@ module _ {t v q nodes : List ℕ} {e : ℕ} {f : Entry} (fe : f ≡ entry q e) (
   unfolding pairsOver
   did-step b s o p h = p ∙ rw fe (as-path t q nodes e b s (step (left q e) (tag q e)) (at-step q e (rw fe at h)))
 
-  is-compose : f .kind ≡ 1 → pathAt q e ≡ compose (pathAt q (f .left)) (pathAt q (f .right))
+  pub is-compose : f .kind ≡ 1 → pathAt q e ≡ compose (pathAt q (f .left)) (pathAt q (f .right))
   unfolding leftPath rightPath
   is-compose h = rw fe (at-compose q e (rw fe at h) (path-left (rw h)) (path-right (rw h)))
 
@@ -101,7 +101,7 @@ module _ {t v q nodes : List ℕ} {e : ℕ} {f : Entry} (fe : f ≡ entry q e) (
       p ∙ rw (a, cj, ci) (image-compose (sizeOf t) (small ok) (rel t q nodes (f .left)) (rel t q nodes (f .right)) (memb s)
       ∙ as-path t q nodes e false s (compose (pathAt q (f .left)) (pathAt q (f .right))) (is-compose h))
 
-  is-filter : f .kind ≡ 5 → pathAt q e ≡ filter (pathAt q (f .left)) (exprAt q (f .right))
+  pub is-filter : f .kind ≡ 5 → pathAt q e ≡ filter (pathAt q (f .left)) (exprAt q (f .right))
   unfolding leftPath rightExpr
   is-filter h = rw fe (at-filter q e (rw fe at h) (path-left (rw h)) (expr-right (rw h)))
 
@@ -118,7 +118,7 @@ module _ {t v q nodes : List ℕ} {e : ℕ} {f : Entry} (fe : f ≡ entry q e) (
 -- union, intersect, except
 
 module _ {t v q nodes : List ℕ} {e : ℕ} (ok : Ready t v q nodes) (em : e < entriesOf q) where
-  is-joined : (b : Bool) (x y : ℕ) → 2 ≤ kind q e → kind q e ≤ 4 → related t q nodes e b x y ≡ combine (kind q e - 2) (related t q nodes (left q e) b x y) (related t q nodes (right q e) b x y)
+  pub is-joined : (b : Bool) (x y : ℕ) → 2 ≤ kind q e → kind q e ≤ 4 → related t q nodes e b x y ≡ combine (kind q e - 2) (related t q nodes (left q e) b x y) (related t q nodes (right q e) b x y)
   unfolding related pairsOver combine
   is-joined b x y l h = turned b
     where
@@ -204,7 +204,7 @@ module _ {t v q nodes : List ℕ} {e : ℕ} {f : Entry} (fe : f ≡ entry q e) (
   unfolding row related pairsOver
   did-variable o p l h = p ∙ only-upto (sizeOf t) (small ok) (assigned nodes (f .left)) l ∙ rw (at-variable q e (rw fe at h), fe)
 
-  is-root : f .kind ≡ 7 → pathAt q e ≡ fromRoot (pathAt q (f .left))
+  pub is-root : f .kind ≡ 7 → pathAt q e ≡ fromRoot (pathAt q (f .left))
   unfolding leftPath
   is-root h = rw fe (at-root q e (rw fe at h) (path-left fe ok em (rw h)))
 

@@ -12,6 +12,9 @@ pub type Cells = [u8; 66560];
 // Room for rows of answers.
 pub type Rows = [u16; 1024];
 
+// Room for the pairs of 256 nodes as bits, and more.
+pub type Words = [u64; 1040];
+
 fn put_at(table: &mut Table, at: usize, value: usize) {
     if at < 1025 {
         if value < 65536 {
@@ -60,6 +63,19 @@ pub fn put_byte(bytes: &mut [u8], at: usize, value: usize) {
 pub fn byte_at(bytes: &[u8], at: usize) -> u8 {
     if at < bytes.len() {
         return bytes[at];
+    }
+    0
+}
+
+pub fn put_word(words: &mut [u64], at: usize, value: u64) {
+    if at < words.len() {
+        words[at] = value;
+    }
+}
+
+pub fn word_at(words: &[u64], at: usize) -> u64 {
+    if at < words.len() {
+        return words[at];
     }
     0
 }

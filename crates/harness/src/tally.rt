@@ -51,6 +51,11 @@ pub const DOCUMENTS: usize = 58;
 
 pub const LEFT_OUT: usize = 59;
 
+// How many deep queries there were, and how many of these had some pairs and not all.
+pub const DEEP: usize = 60;
+
+pub const MIXED: usize = 61;
+
 pub fn add(tally: &mut Tally, at: usize, more: u64) {
     if at < 64 {
         let sum = std::num::wrapping_add_u64(tally[at], more);
@@ -153,6 +158,29 @@ pub fn expect_rows(tally: &mut Tally, got: &table::Rows, due: &table::Rows) {
     expect(tally, same_rows(got, due));
 }
 
+fn same_word(got: &table::Words, due: &table::Words, at: usize) -> bool {
+    if at < 1040 {
+        return got[at] == due[at];
+    }
+    false
+}
+
+fn same_words(got: &table::Words, due: &table::Words) -> bool {
+    let mut at = 0;
+    while at < 1040 {
+        if !same_word(got, due, at) {
+            return false;
+        }
+        at += 1;
+    }
+    true
+}
+
+// A buffer for words compared with the whole of what is due.
+pub fn expect_words(tally: &mut Tally, got: &table::Words, due: &table::Words) {
+    expect(tally, same_words(got, due));
+}
+
 fn same_cursor(a: model::Cursor, b: model::Cursor) -> bool {
     (a.begun == b.begun) & (a.first == b.first) & (a.second == b.second) & (a.third == b.third)
 }
@@ -197,6 +225,12 @@ pub fn expect_damage(tally: &mut Tally, some: usize, of: usize) {
 pub fn expect_left_out(tally: &mut Tally, some: usize, of: usize) {
     let whole = sum_at(tally, DOCUMENTS);
     expect_share(tally, LEFT_OUT, whole, some, of);
+}
+
+// Of the deep queries no fewer than some of so many had some pairs and not all.
+pub fn expect_mixed(tally: &mut Tally, some: usize, of: usize) {
+    let whole = sum_at(tally, DEEP);
+    expect_share(tally, MIXED, whole, some, of);
 }
 
 // The line for the part that ends here.
@@ -269,6 +303,8 @@ pub fn show_all(tally: &Tally) {
         LEFT_OUT,
         b"of these with a star that leaves it out: ",
     );
+    show_found(tally, DEEP, b"deep queries: ");
+    show_found(tally, MIXED, b"of these with some pairs and not all: ");
     io::write_all(1, b"in all: ");
     show_number(sum_at(tally, COMPARED), b" compared, ");
     show_number(sum_at(tally, FAILED), b" failed\n");

@@ -36,7 +36,7 @@ module _ (t q nodes : List ℕ) (columns : ℕ) where
       tables-of (v .0) (w .0) (accepted (nodeChecks t columns nodes) refl (w .1))
 
   -- tables that are followed by other checks
-  front : (b : List Check) → verdict (tableChecks t q columns nodes ++ b) .number ≡ 0 → Tables t q nodes × (verdict b .number ≡ 0)
+  pub front : (b : List Check) → verdict (tableChecks t q columns nodes ++ b) .number ≡ 0 → Tables t q nodes × (verdict b .number ≡ 0)
   front b h =
       let v = Passes-front (tableChecks t q columns nodes) b (tables-numbered t q columns nodes) h in
       (tables-accepted (all-pass (tableChecks t q columns nodes) (v .0)), v .1)

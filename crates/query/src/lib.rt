@@ -79,14 +79,14 @@ fn names_variable(k: usize) -> bool
 }
 
 // The kind has a left operand.
-fn has_left(k: usize) -> bool
+pub fn has_left(k: usize) -> bool
     ensures { λ r. ⌜ r ≡ hasLeft k ⌝ }
 {
     left_path(k) | left_expr(k)
 }
 
 // The kind has a right operand.
-fn has_right(k: usize) -> bool
+pub fn has_right(k: usize) -> bool
     ensures { λ r. ⌜ r ≡ hasRight k ⌝ }
 {
     right_path(k) | right_expr(k)

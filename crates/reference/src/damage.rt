@@ -5,7 +5,7 @@ use super::listing;
 use super::random;
 use harness::table;
 
-fn reply(number: usize, place: usize) -> model::Reply {
+pub fn reply(number: usize, place: usize) -> model::Reply {
     model::Reply {
         number: table::narrow(number),
         place: table::narrow(place),
@@ -177,7 +177,7 @@ fn in_cursor(seed: &mut u64, s: listing::Space, room: usize) -> Fault {
 }
 
 // A fault in one of the tables.
-fn in_table(
+pub fn in_table(
     seed: &mut u64,
     tree: &mut table::Table,
     query: &mut table::Table,

@@ -30,7 +30,7 @@ unfolding combine
 combine-else op a b p q = sym (List·getD-eq-default ((a || b) ∷ (a && b) ∷ []) (a && not b) (let h : 2 ≤ op = omega arith in h))
 
 -- every way keeps a bound
-combine-within : (op : ℕ) (c a b : Bool) → combine op (c && a) (c && b) ≡ (c && combine op a b)
+pub combine-within : (op : ℕ) (c a b : Bool) → combine op (c && a) (c && b) ≡ (c && combine op a b)
 unfolding combine
 combine-within op true a b = refl
 combine-within zero false a b = refl

@@ -108,7 +108,7 @@ module _ (L : ℕ → ℕ) where
   unfolding star
   star-self x = or-left (eqb x x) (plus L x x) (eq-eqb x x refl)
 
-  star-plus : (x y : ℕ) → plus L x y ≡ true → star L x y ≡ true
+  pub star-plus : (x y : ℕ) → plus L x y ≡ true → star L x y ≡ true
   unfolding star
   star-plus x y h = or-right (eqb x y) (plus L x y) h
 

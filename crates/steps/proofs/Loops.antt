@@ -33,13 +33,13 @@ reach-out n R S y p =
 -- gather: each node's byte comes from its link
 
 module _ (L : ℕ → ℕ) (n : ℕ) (S : ℕ → Bool) where
-  hop-at : (y : ℕ) → y < n → reach n (hop L) S y ≡ (ltb (L y) y && S (L y))
+  pub hop-at : (y : ℕ) → y < n → reach n (hop L) S y ≡ (ltb (L y) y && S (L y))
   hop-at y l = bool-ext (reach n (hop L) S y) (ltb (L y) y && S (L y))
       (λ p. let (x, h, s, r) = reach-out n (hop L) S y p in both-yes (lt-ltb (L y) y (hop-falls L x y r)) (ap S (hop-is L x y r) ∙ s))
       (λ p. let f : L y < y = ltb-true (L y) y (yes-left (ltb (L y) y) (S (L y)) p) in
       reach-in n (hop L) S (L y) y (omega arith) (yes-right (ltb (L y) y) (S (L y)) p) (hop-of L (L y) y f refl))
 
-  plus-at : (y : ℕ) → y < n → reach n (plus L) S y ≡ (ltb (L y) y && (S (L y) || reach n (plus L) S (L y)))
+  pub plus-at : (y : ℕ) → y < n → reach n (plus L) S y ≡ (ltb (L y) y && (S (L y) || reach n (plus L) S (L y)))
   plus-at y l = bool-ext (reach n (plus L) S y) (ltb (L y) y && (S (L y) || reach n (plus L) S (L y)))
       (λ p. let (x, h, s, r) = reach-out n (plus L) S y p in
       both-yes (lt-ltb (L y) y (plus-falls L x y r))
@@ -143,13 +143,13 @@ module _ (L : ℕ → ℕ) (n : ℕ) (S : ℕ → Bool) (closed : Bool) where
       )
 
   -- all hops that end at x are from i on
-  part-all : (i x : ℕ) → i ≤ suc x → part i x ≡ U x
+  pub part-all : (i x : ℕ) → i ≤ suc x → part i x ≡ U x
   part-all i x a = bool-ext (part i x) (U x)
       (λ p. let (z, l, b, s, h) = part-out i x p in sent-on x z l s h)
       (λ p. let (z, l, s, h) = sent-by x p in
       let f : L z < z = hop-falls L x z h in let e : L z ≡ x = hop-is L x z h in part-in i x z l (omega arith) s h)
 
-  part-more : (y x : ℕ) → y < n → part y x ≡ ((sending y && hop L x y) || part (suc y) x)
+  pub part-more : (y x : ℕ) → y < n → part y x ≡ ((sending y && hop L x y) || part (suc y) x)
   part-more y x l = bool-ext (part y x) ((sending y && hop L x y) || part (suc y) x)
       (λ p. let (z, m, b, s, h) = part-out y x p in
       ⊎-elim (λ e. or-left (sending y && hop L x y) (part (suc y) x) (rw e (both-yes s h))) (λ k. or-right (sending y && hop L x y) (part (suc y) x) (part-in (suc y) x z m k s h)) (eq-or-lt-of-le b))

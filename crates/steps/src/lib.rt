@@ -143,7 +143,7 @@ fn axis_image(tree: &[u16], prev: &[u16], a: usize, back: bool, from: [u8; 256])
 }
 
 // Whether every node passes the name test: node() in each tree, the star where node 0 is no document node.
-fn passes_all(tree: &[u16], name: usize) -> bool
+pub fn passes_all(tree: &[u16], name: usize) -> bool
     requires { ⌜ 0 < sizeOf (now tree) ⌝ }
     ensures { λ r. ⌜ r ≡ passesAll (treeOf (now (tree .entry))) name ⌝ }
 {
@@ -151,7 +151,7 @@ fn passes_all(tree: &[u16], name: usize) -> bool
 }
 
 // The name test matches the tag. Tags are compared as they are, in 16 bits, so that vector code takes more of them at a time.
-fn matches_tag(name: usize, tag: u16) -> bool
+pub fn matches_tag(name: usize, tag: u16) -> bool
     ensures { λ r. ⌜ r ≡ matches name tag ⌝ }
 {
     let same = (name < 65536) & (tag == (name % 65536) as u16);

@@ -6,6 +6,8 @@ ghost use Rattle.model.specs.Refusals.{verdict};
 ghost use Rattle.model.specs.Checks.{treeChecks, queryChecks};
 ghost use Rattle.model.specs.Services.{ImageLeaves, PairsLeave};
 ghost use Rattle.model.specs.Services.{pageOutcome, PageLeaves};
+ghost use Rattle.relations.specs.Services.{BitPairsLeave};
+ghost use Rattle.packing.specs.Services.{PackLeaves, UnpackLeaves};
 ghost use Rattle.index.specs.Index.{IndexLeaves};
 ghost use Rattle.lookup.specs.Chain.{LookupLeaves};
 ghost use Rattle.names.specs.Names.{nameChecks, partFor, IsPart};
@@ -84,6 +86,41 @@ pub extern "C" fn gz_pairs(
         ⌝ }
 {
     images::pairs(tree, query, model::wide(columns), nodes, table)
+}
+
+// All pairs of a query, a bit a pair.
+#[no_mangle]
+pub extern "C" fn gz_pairs_bits(
+    tree: &[u16],
+    query: &[u16],
+    columns: u16,
+    nodes: &[u16],
+    words: &mut [u64],
+) -> model::Reply
+    ensures { λ r.
+        ⌜
+        BitPairsLeave (now (tree .entry)) (now (query .entry))
+        columns (now (nodes .entry)) (now (words .entry))
+        r (now (words .exit))
+        ⌝ }
+{
+    relations::pairs(tree, query, model::wide(columns), nodes, words)
+}
+
+// A relation among n nodes, from bytes to bits.
+#[no_mangle]
+pub extern "C" fn gz_pack(n: u16, table: &[u8], words: &mut [u64]) -> model::Reply
+    ensures { λ r. ⌜ PackLeaves n (now (table .entry)) (now (words .entry)) r (now (words .exit)) ⌝ }
+{
+    packing::pack(model::wide(n), table, words)
+}
+
+// A relation among n nodes, from bits to bytes.
+#[no_mangle]
+pub extern "C" fn gz_unpack(n: u16, words: &[u64], table: &mut [u8]) -> model::Reply
+    ensures { λ r. ⌜ UnpackLeaves n (now (words .entry)) (now (table .entry)) r (now (table .exit)) ⌝ }
+{
+    packing::unpack(model::wide(n), words, table)
 }
 
 // The page of answers after the cursor that is lent, which moves on to the last row written.

@@ -1,4 +1,5 @@
 // Random trees, queries and sets: the services compared with the reference evaluator.
+use super::bit_pairs;
 use super::call;
 use harness::line;
 use harness::table;
@@ -49,7 +50,21 @@ fn compare_image(
     call::compare_set(tally, c, tree, query, nodes, &set, &due);
 }
 
-// The table of all pairs; answers how many there are.
+// The same pairs in bits, and a call for them with a fault. The seed is a copy, so that the trees that come next do not depend on it.
+fn compare_bits(
+    tally: &mut tally::Tally,
+    seed: u64,
+    tree: &table::Table,
+    query: &table::Table,
+    nodes: &table::Table,
+    cells: &table::Cells,
+) {
+    let mut own = seed;
+    bit_pairs::compare_table(tally, &mut own, tree, query, nodes, cells);
+    bit_pairs::refuse(tally, &mut own, tree, query, nodes);
+}
+
+// The table of all pairs, as bytes and as bits; answers how many there are.
 fn compare_pairs(
     tally: &mut tally::Tally,
     seed: &mut u64,
@@ -64,6 +79,7 @@ fn compare_pairs(
     tally::add(tally, tally::PAIRS, found as u64);
     let c = accepted(seed, call::PAIRS, nodes, 0, table::times(n, n), 0);
     call::compare_pairs(tally, c, tree, query, nodes, &due);
+    compare_bits(tally, *seed, tree, query, nodes, &due);
     found
 }
 

@@ -1,6 +1,8 @@
 // The checks of the input, by the first letter of their line. A check of a table also makes it the present one.
 use super::call;
 use super::compare;
+use super::conversions;
+use super::deep;
 use super::indexes;
 use super::lookups;
 use super::pages;
@@ -86,7 +88,7 @@ fn run_table(
     }
 }
 
-// One random tree, with a query or an index.
+// One random tree, with a query or an index, or one random table of pairs.
 fn run_one(
     tally: &mut tally::Tally,
     seed: &mut u64,
@@ -102,12 +104,22 @@ fn run_one(
         searches::run(tally, seed, line);
         return;
     }
+    if letter == b'j' {
+        deep::run(tally, seed, line, pairs);
+        return;
+    }
+    if letter == b'm' {
+        conversions::run_random(tally, seed, line);
+        return;
+    }
     paging::run(tally, seed, line, pairs);
 }
 
 // random SEED COUNT | LEAST MOST ENTRIES: so many trees, of LEAST to MOST nodes, and queries from a seed
 // walks SEED COUNT | LEAST MOST ENTRIES | LEAST MOST: as random, with LEAST to MOST variables
 // searches SEED COUNT | LEAST MOST TIMES: so many trees, of LEAST to MOST nodes, and TIMES searches of every sort in each
+// joined SEED COUNT | LEAST MOST | LEAST MOST: so many trees, of LEAST to MOST nodes, and deep queries of LEAST to MOST leaves
+// matrices SEED COUNT | LEAST MOST: so many tables of the pairs of LEAST to MOST nodes
 fn run_random(tally: &mut tally::Tally, line: &line::Line, letter: u8) {
     let mut pairs = [0u8; 4194304];
     let mut seed = line::number(line, 0, 0) as u64;
@@ -144,9 +156,14 @@ fn run_call(
     }
 }
 
+// A line that compares on random tables.
+fn is_random(letter: u8) -> bool {
+    (letter == b'r') | (letter == b'w') | (letter == b's') | (letter == b'j') | (letter == b'm')
+}
+
 // The lines that compare on random tables, and those that say how many of these were of some sort.
 fn run_many(tally: &mut tally::Tally, line: &line::Line, letter: u8) {
-    if (letter == b'r') | (letter == b'w') | (letter == b's') {
+    if is_random(letter) {
         run_random(tally, line, letter);
         return;
     }
@@ -160,6 +177,9 @@ fn run_many(tally: &mut tally::Tally, line: &line::Line, letter: u8) {
     }
     if letter == b'o' {
         tally::expect_left_out(tally, some, of);
+    }
+    if letter == b'v' {
+        tally::expect_mixed(tally, some, of);
     }
 }
 

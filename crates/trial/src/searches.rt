@@ -14,12 +14,12 @@ use reference::searching;
 use reference::tagging;
 
 // As much room as is needed, or a little more.
-fn enough(seed: &mut u64, needed: usize) -> usize {
+pub fn enough(seed: &mut u64, needed: usize) -> usize {
     std::num::wrapping_add_usize(needed, random::below(seed, 4))
 }
 
 // Every other time too little room: none, any, or one less than is needed.
-fn maybe_short(seed: &mut u64, needed: usize) -> usize {
+pub fn maybe_short(seed: &mut u64, needed: usize) -> usize {
     let form = random::below(seed, 6);
     if form == 0 {
         return 0;

@@ -1,0 +1,4 @@
+pub mod Rows
+pub mod Columns
+pub mod Passes
+pub mod Axes

@@ -1,0 +1,54 @@
+use Prim.Native.Nat.{_≤_}
+use native.Mathlib.Omega.{arith}
+use borrow.Author.Needs.{needs}
+use Rattle.tree.specs.Links.{links}
+use Rattle.bits.specs.BitTables.{bitRelation}
+use Rattle.bits.specs.Rows.{Becomes}
+use Rattle.moves.proofs.Passes.{mixed, hopped, hop-away-start, hop-away-more, hop-away-done}
+use Rattle.moves.proofs.pass.hop_away.Statement.{statement}
+use Rattle.moves.proofs.pass.hop_away.Tie as tie
+
+abbrev Inv-loop : tie.InvT-loop
+Inv-loop link n acc₀ i₀ acc i = (i ≤ n) × Becomes n (mixed i (bitRelation acc₀) (hopped (links link) n acc₀)) acc₀ acc
+
+abbrev μ-loop : tie.MeasureT-loop
+μ-loop link n acc₀ i₀ acc i = i
+
+loop-holds : tie.Need-loop-holds Inv-loop μ-loop
+loop-holds c = (omega arith, hop-away-start _ _ _)
+
+sub-y : tie.Need-sub-y Inv-loop μ-loop
+sub-y c = omega arith
+
+link-of-requires : tie.Need-link-of-requires Inv-loop μ-loop
+link-of-requires c κs = omega arith
+
+pull-requires : tie.Need-pull-requires Inv-loop μ-loop
+pull-requires c κs = omega arith
+
+loop-less : tie.Need-loop-less Inv-loop μ-loop
+loop-less c = omega arith
+
+loop-again : tie.Need-loop-again Inv-loop μ-loop
+loop-again c = (omega arith, hop-away-more _ _ _ _ _ _ _ _ (c .before .before .before .before .before .before .loop .inv .1) (c .before .before .pull .ensures) (c .before .before .before .before .link-of .ensures) (omega arith) (omega arith))
+
+same-length : tie.Need-same-length Inv-loop μ-loop
+same-length c = c .before .loop .inv .1 .size
+
+returns : tie.Need-returns Inv-loop μ-loop
+returns c = search (hop-away-done, needs)
+
+pub hop-away-spec : {M : Type 1} → statement M
+hop-away-spec =
+    tie.close
+    (tie.spec
+    Inv-loop
+    μ-loop
+    loop-holds
+    sub-y
+    link-of-requires
+    pull-requires
+    loop-less
+    loop-again
+    same-length
+    returns)

@@ -1,0 +1,4 @@
+pub mod Stray
+pub mod Rows
+pub mod Verdicts
+pub mod RoundTrip

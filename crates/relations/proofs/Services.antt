@@ -1,0 +1,78 @@
+-- What an accepted call gives and leaves, and that the two engines agree.
+use Prim.Native.Nat.{ℕ, _+_, _*_, _/_, _%_, _^_, _≤_, _<_}
+use native.Mathlib.Omega.{arith}
+use mathlib.Core.Path.{_≡_, refl}
+use mathlib.Core.Bool.{false}
+use mathlib.Core.List.{List, _++_}
+use lib.ListN.{length, getD, drop}
+use borrow.Author.Tests.{ltb-false}
+use Rattle.model.specs.declared.Reply.{Reply}
+use Rattle.model.specs.Sets.{upto}
+use Rattle.model.specs.Tree.{treeOf, sizeOf}
+use Rattle.model.specs.QueryTable.{lastOf}
+use Rattle.model.specs.Results.{related}
+use Rattle.model.specs.Refusals.{verdict, written}
+use Rattle.model.specs.Checks.{treeChecks, queryChecks, nodeChecks, tableChecks, roomChecks}
+use Rattle.model.proofs.Refusals.{Passes, numbered, accepted, Passes-front, all-pass, written-over}
+use Rattle.model.proofs.Accepted.{tree-numbered, query-numbered}
+use Rattle.checks.proofs.Verdicts.{zero-of, tables-numbered}
+use Rattle.tree.specs.Links.{PreviousSiblings}
+use Rattle.images.specs.Tables.{Tables}
+use Rattle.images.proofs.Accepted.{front}
+use Rattle.aside.specs.Aside.{Shaped, Counts, asideAt}
+use Rattle.aside.proofs.Accepted.{accepted-shaped, accepted-five}
+use Rattle.bits.specs.Words.{words}
+use Rattle.bits.specs.BitTables.{bitCell, bitTable}
+use Rattle.bits.specs.Rows.{Becomes}
+use Rattle.bits.proofs.Words.{length-words}
+use Rattle.bits.proofs.Rows.{as-words}
+use Rattle.relations.specs.Evaluation.{Asks, tableAt}
+use Rattle.relations.specs.Services.{bitPairsChecks, pairsWords}
+
+-- what the last entry keeps aside, as it is counted
+pub last-counted : (t q nodes counts : List ℕ) → Counts q counts → Tables t q nodes → getD counts (lastOf q) 0 ≡ asideAt q (lastOf q)
+last-counted t q nodes counts c a = c .at (lastOf q) (a .last)
+
+-- what the last entry asks for, with room for so many tables
+pub ask-last : (t prev q nodes counts acc : List ℕ) (room : ℕ) → Tables t q nodes → PreviousSiblings (treeOf t) (sizeOf t) prev → Shaped q → Counts q counts → getD counts (lastOf q) 0 ≤ room
+    → 4 * sizeOf t ≤ length acc → Asks t prev q nodes counts room (lastOf q) 0 7 0 acc
+ask-last t prev q nodes counts acc room a p s c l h = record {
+  ready = record { linked = record { tree = a .tree; siblings = p }; query = a .query };
+  shaped = s;
+  counted = c;
+  kinds = record { within = a .last; least = omega arith; most = omega (arith, a .path) };
+  table = h;
+  fits = omega (arith, last-counted t q nodes counts c a);
+}
+
+-- the words of the table that was made
+pub did-pairs : (t q nodes w o : List ℕ) → Becomes (sizeOf t) (tableAt t q nodes (lastOf q)) w o → 4 * sizeOf t ≤ length w → ((i : ℕ) → getD o i 0 < 2 ^ 64)
+    → o ≡ pairsWords t q nodes ++ drop (4 * sizeOf t) w
+unfolding tableAt pairsWords bitTable bitCell upto
+did-pairs t q nodes w o b h fits = as-words (sizeOf t) _ (bitCell (sizeOf t) (related t q nodes (lastOf q) false)) w o b h (λ i l. fits i) (λ x y lx ly.
+    let e : (256 * x + y) / 256 ≡ x = omega arith in
+    let d : (256 * x + y) % 256 ≡ y = omega arith in
+    rw (e, d))
+
+module _ (t q nodes : List ℕ) (columns room : ℕ) (r : Reply) (p : r ≡ verdict (bitPairsChecks t q columns nodes room)) (z : r .number ≡ 0) where
+  tables-pass : verdict (tableChecks t q columns nodes) .number ≡ 0
+  unfolding bitPairsChecks
+  tables-pass = all-pass (tableChecks t q columns nodes)
+      (Passes-front (tableChecks t q columns nodes) (roomChecks room (4 * sizeOf t)) (tables-numbered t q columns nodes) (zero-of (bitPairsChecks t q columns nodes room) r p z) .0)
+
+  query-passes : Passes (queryChecks q 0 columns)
+  unfolding tableChecks
+  query-passes =
+      let v = Passes-front (treeChecks t) (queryChecks q 0 columns ++ nodeChecks t columns nodes) (tree-numbered t) tables-pass in
+      Passes-front (queryChecks q 0 columns) (nodeChecks t columns nodes) (query-numbered q 0 columns) (v .1) .0
+
+  pub pairs-accepted : Tables t q nodes × (Shaped q × ((asideAt q (lastOf q) ≤ 5) × (4 * sizeOf t ≤ room)))
+  unfolding bitPairsChecks roomChecks Passes numbered
+  pairs-accepted =
+      let h = front t q nodes columns (roomChecks room (4 * sizeOf t)) (zero-of (bitPairsChecks t q columns nodes room) r p z) in
+      let w = accepted (roomChecks room (4 * sizeOf t)) refl (h .1) in
+      (h .0, (accepted-shaped q 0 columns query-passes, (accepted-five q 0 columns query-passes, ltb-false room (4 * sizeOf t) (w .0))))
+
+pub pairs-over : (t q nodes to after : List ℕ) (r v : Reply) → after ≡ pairsWords t q nodes ++ drop (4 * sizeOf t) to → r ≡ v → r .number ≡ 0 → after ≡ written v (pairsWords t q nodes) to
+unfolding pairsWords bitTable
+pairs-over t q nodes to after r v a p z = written-over r v (pairsWords t q nodes) to after (4 * sizeOf t) a p z (length-words (4 * sizeOf t) (bitCell (sizeOf t) (related t q nodes (lastOf q) false)))

@@ -1,0 +1,37 @@
+// Deep queries: pairs in bits compared with the reference evaluator. The engine over bytes is not asked: a set operation behind a
+// composition takes it n times as long, and here they nest.
+use super::bit_pairs;
+use super::call;
+use harness::line;
+use harness::table;
+use harness::tally;
+use reference::evaluator;
+use reference::random;
+use reference::shapes;
+
+// The pairs of one tree and one deep query that a line asks for, LEAST MOST nodes | LEAST MOST leaves, under a random assignment.
+pub fn run(
+    tally: &mut tally::Tally,
+    seed: &mut u64,
+    line: &line::Line,
+    pairs: &mut evaluator::Pairs,
+) {
+    let mut tree = [0u16; 1025];
+    let mut query = [0u16; 1025];
+    let mut nodes = [0u16; 1025];
+    let mut cells = [call::PATTERN; 66560];
+    let n = random::between(seed, line::number(line, 1, 0), line::number(line, 1, 1));
+    let leaves = random::between(seed, line::number(line, 2, 0), line::number(line, 2, 1));
+    let columns = random::below(seed, 4);
+    random::make_tree(seed, &mut tree, n);
+    random::maybe_document(seed, &mut tree);
+    shapes::make(seed, &mut query, leaves, columns);
+    random::make_nodes(seed, &mut nodes, columns, n);
+    evaluator::fill(pairs, &tree, &query, &nodes);
+    let found = evaluator::all_pairs(pairs, table::last(&query), n, &mut cells);
+    tally::add(tally, tally::PAIRS, found as u64);
+    let mixed = (0 < found) & (found < table::times(n, n));
+    tally::add(tally, tally::DEEP, 1);
+    tally::add(tally, tally::MIXED, mixed as u64);
+    bit_pairs::compare_table(tally, seed, &tree, &query, &nodes, &cells);
+}
