@@ -1,20 +1,21 @@
--- Laws of words as sets of bits. Every operation on words is one on the tests of their bits: word-or, word-and, word-not,
--- word-one; a word is the word of its own bits: word-bits.
+-- Laws of words as sets of bits, to which all reasoning about bits comes down. Every operation on words is one on the tests of their
+-- bits: word-or, word-and, word-not, word-one, test-shift, test-without; a word is the word of its own bits: word-bits.
 use Prim.Native.Nat.{ℕ, zero, suc, _+_, _-_, _*_, _/_, _%_, _^_, _≤_, _<_, min, max}
-use native.Mathlib.Nat.{not-suc-le-zero, le-of-suc-le-suc, lt-of-lt-of-le, pow-suc, add-zero, add-suc, div-add-mod', div-one, div-eq-of-lt, zero-div}
-use native.Mathlib.Numerals.{one-add}
+use native.Mathlib.Nat.{not-suc-le-zero, le-of-suc-le-suc, lt-of-lt-of-le, pow-suc, add-zero, add-suc, div-add-mod', div-one, div-eq-of-lt, zero-div, add-comm}
+use native.Mathlib.Numerals.{one-add, add-one}
 use native.Mathlib.Omega.{arith}
-use mathlib.Core.Path.{_≡_, refl, sym, ap, ap₂, _∙_}
-use mathlib.Core.Bool.{Bool, true, false, not, _&&_, _||_}
+use mathlib.Core.Path.{_≡_, refl, sym, ap, ap₂, _∙_, subst}
+use mathlib.Core.Bool.{Bool, true, false, not, _&&_, _||_, and-true, or-false}
 use mathlib.Core.Logic.{⊎-elim}
 use mathlib.Core.List.{List, [], _∷_, _++_, append-assoc, append-nil}
 use lib.ListN.{length, getD}
 use lib.Dec.{eqb, ltb, eqb·suc-suc}
 use lib.Seq.{ext-getD}
 use lib.Arith.{digits-div, digits-mod}
-use lib.Pow.{shr-shr, pow-mono, shr-le}
-use lib.Bits.{bitAnd, bitOr, and-step, or-step}
-use borrow.Author.Tests.{eqb-true, ne-eqb, ltb-false, le-ltb, not-true}
+use lib.Pow.{shr-shr, pow-mono, shr-le, shl-exact, pow-pos}
+use lib.Bits.{bitAnd, bitOr, and-step, or-step, and-self, or-shifted-r}
+use lib.Count.{trailingZeros}
+use borrow.Author.Tests.{eqb-true, ne-eqb, ltb-false, le-ltb, not-true, lt-ltb}
 use Rattle.model.specs.Sets.{any, bit}
 use Rattle.model.proofs.Booleans.{Seen, yes!, no!, seen, no-yes, bool-ext, both-yes, yes-left, yes-right, lt-or-le}
 use Rattle.model.proofs.Exists.{any-intro, any-elim, none-of}
@@ -251,3 +252,144 @@ word-short zero m f g l h z = sym (word-none m g (λ i u. z i (omega arith) u))
 word-short (suc k) zero f g l h z = absurd (not-suc-le-zero l)
 word-short (suc k) (suc m) f g l h z =
     rw (h 0 (omega arith), word-short k m (λ i. f (suc i)) (λ i. g (suc i)) (le-of-suc-le-suc l) (λ i u. h (suc i) (omega arith)) (λ i u v. z (suc i) (omega arith) (omega arith)))
+
+-- a bit of two words joined
+pub test-or : (a b k : ℕ) → a < 2 ^ 64 → b < 2 ^ 64 → k < 64 → testBit (bitOr a b) k ≡ (testBit a k || testBit b k)
+test-or a b k fa fb l =
+    ap (λ (v : ℕ). testBit v k) (ap₂ bitOr (sym (word-bits 64 a fa)) (sym (word-bits 64 b fb)) ∙ word-or 64 (testBit a) (testBit b))
+    ∙ test-word 64 (λ i. testBit a i || testBit b i) k l
+
+-- one bit more is set
+pub word-more : (f : ℕ → Bool) (w k v : ℕ) → w ≡ word k f → v ≡ bit (f k) → k < 64 → bitOr w ((v * 2 ^ k) % 2 ^ 64) ≡ word (k + 1) f
+word-more f w k v p q l =
+    rw (p, q, add-one k, shl-exact {a = bit (f k)} 1 k 64 (bit-lt (f k)) (omega arith), or-shifted-r (bit (f k)) k (word k f) (word-lt k f), word-snoc k f)
+    (add-comm (bit (f k) * 2 ^ k) (word k f))
+
+-- the lowest m bits
+pub word-below : (k m : ℕ) → m ≤ k → word k (λ i. ltb i m) ≡ 2 ^ m - 1
+unfolding word
+word-below zero zero h = refl
+word-below zero (suc m) h = absurd (omega arith)
+word-below (suc k) zero h = word-none (suc k) (λ i. ltb i 0) (λ i l. le-ltb i 0 (omega arith))
+word-below (suc k) (suc m) h =
+    rw (word-cong k (λ i. ltb (suc i) (suc m)) (λ i. ltb i m) (λ i l. same i), word-below k m (le-of-suc-le-suc h), lt-ltb 0 (suc m) (omega arith), pow-suc 2 m)
+    (let p : 0 < 2 ^ m = pow-pos m in omega arith)
+  where
+    same : (i : ℕ) → ltb (suc i) (suc m) ≡ ltb i m
+    same i = ⊎-elim (λ l. lt-ltb (suc i) (suc m) (omega arith) ∙ sym (lt-ltb i m l)) (λ l. le-ltb (suc i) (suc m) (omega arith) ∙ sym (le-ltb i m l)) (lt-or-le i m)
+
+pub one-shifted : (m : ℕ) → m < 64 → 1 ≤ (1 * 2 ^ m) % 2 ^ 64
+one-shifted m l = rw (shl-exact {a = 1} 1 m 64 (omega arith) (omega arith)) (let p : 0 < 2 ^ m = pow-pos m in omega arith)
+
+-- the lowest bit
+
+-- t is the lowest number below k that passes f
+pub record Lowest (k : ℕ) (f : ℕ → Bool) (t : ℕ) : Type 0 where
+  pub below : t < k
+  pub holds : f t ≡ true
+  pub first : (i : ℕ) → i < t → f i ≡ false
+
+module _ (k : ℕ) (f : ℕ → Bool) where
+  lowest-here : f 0 ≡ true → trailingZeros (suc k) (word (suc k) f) ≡ 0
+  unfolding trailingZeros
+  lowest-here p = rw (odd k f, p)
+
+  lowest-later : f 0 ≡ false → trailingZeros (suc k) (word (suc k) f) ≡ suc (trailingZeros k (word k (λ i. f (suc i))))
+  unfolding trailingZeros
+  lowest-later p = rw (odd k f, half k f, p)
+
+  any-later : f 0 ≡ false → any (suc k) f ≡ true → any k (λ i. f (suc i)) ≡ true
+  any-later p h = go (any-elim (suc k) f h)
+    where
+      go : ((x : ℕ) × (x < suc k) × (f x ≡ true)) → any k (λ i. f (suc i)) ≡ true
+      go (zero, l, q) = no-yes p q
+      go (suc x, l, q) = any-intro k (λ i. f (suc i)) x (le-of-suc-le-suc l) q
+
+  some-word : any k f ≡ true → 0 < word k f
+  some-word h =
+      ⊎-elim (λ l. l) (λ l. no-yes (ap (λ (v : ℕ). not (eqb v 0)) (let e : word k f ≡ 0 = omega arith in e)) (word-zero k f ∙ h)) (lt-or-le 0 (word k f))
+
+pub lowest-bit : (k : ℕ) (f : ℕ → Bool) → any k f ≡ true → Lowest k f (trailingZeros k (word k f))
+unfolding any
+lowest-bit zero f h = no-yes refl h
+lowest-bit (suc k) f h = go (seen (f 0)) (lowest-bit k (λ i. f (suc i)))
+  where
+    go : Seen (f 0) → (any k (λ i. f (suc i)) ≡ true → Lowest k (λ i. f (suc i)) (trailingZeros k (word k (λ i. f (suc i))))) → Lowest (suc k) f (trailingZeros (suc k) (word (suc k) f))
+    go (yes! p) ih = subst (Lowest (suc k) f) (sym (lowest-here k f p)) record { below = omega arith; holds = p; first = λ i l. absurd (omega arith) }
+    go (no! p) ih =
+        let w = ih (any-later k f p h) in
+        subst (Lowest (suc k) f) (sym (lowest-later k f p)) record { below = omega (arith, w .below); holds = w .holds; first = at w }
+      where
+        at : {t : ℕ} → Lowest k (λ i. f (suc i)) t → (i : ℕ) → i < suc t → f i ≡ false
+        at w zero l = p
+        at w (suc i) l = w .first i (le-of-suc-le-suc l)
+
+-- a word and the word less one: the lowest bit goes
+
+and-odd : (w h : ℕ) → w / 2 ≡ h → w % 2 ≡ 1 → bitAnd w (w - 1) ≡ h * 2
+and-odd w h p q =
+    let a : (w - 1) / 2 ≡ h = omega arith in
+    let b : (w - 1) % 2 ≡ 0 = omega arith in
+    and-step w (w - 1) ∙ rw (p, q, a, b, and-self h) (omega arith)
+
+and-even : (w h : ℕ) → w / 2 ≡ h → w % 2 ≡ 0 → 0 < h → bitAnd w (w - 1) ≡ bitAnd h (h - 1) * 2
+and-even w h p q l =
+    let a : (w - 1) / 2 ≡ h - 1 = omega arith in
+    let b : (w - 1) % 2 ≡ 1 = omega arith in
+    and-step w (w - 1) ∙ rw (p, q, a, b) (omega arith)
+
+without-lowest : (k : ℕ) (f : ℕ → Bool) → any k f ≡ true → bitAnd (word k f) (word k f - 1) ≡ word k (λ i. f i && not (eqb i (trailingZeros k (word k f))))
+unfolding any
+without-lowest zero f h = no-yes refl h
+without-lowest (suc k) f h = go (seen (f 0)) (without-lowest k (λ i. f (suc i)))
+  where
+    g : ℕ → ℕ → Bool
+    g t i = f i && not (eqb i t)
+
+    -- the bits above the lowest place
+    up : (t : ℕ) (u : ℕ → Bool) → ((i : ℕ) → eqb (suc i) t ≡ u i) → g t 0 ≡ false → word (suc k) (g t) ≡ word k (λ i. f (suc i) && not (u i)) * 2
+    up t u e z =
+        (let d : word (suc k) (g t) ≡ word (suc k) (g t) / 2 * 2 + word (suc k) (g t) % 2 = omega arith in d)
+        ∙ rw (half k (g t), odd k (g t), z, word-cong k (λ i. g t (suc i)) (λ i. f (suc i) && not (u i)) (λ i l. rw (e i))) (omega arith)
+
+    go : Seen (f 0) → (any k (λ i. f (suc i)) ≡ true → bitAnd (word k (λ i. f (suc i))) (word k (λ i. f (suc i)) - 1) ≡ word k (λ i. f (suc i) && not (eqb i (trailingZeros k (word k (λ i. f (suc i)))))))
+        → bitAnd (word (suc k) f) (word (suc k) f - 1) ≡ word (suc k) (g (trailingZeros (suc k) (word (suc k) f)))
+    go (yes! p) ih =
+        and-odd (word (suc k) f) (word k (λ i. f (suc i))) (half k f) (odd k f ∙ rw p)
+        ∙ sym (ap (λ (t : ℕ). word (suc k) (g t)) (lowest-here k f p)
+        ∙ up 0 (λ i. false) (λ i. ne-eqb (suc i) 0 (λ e. omega arith)) (rw p)
+        ∙ ap (λ (v : ℕ). v * 2) (word-cong k (λ i. f (suc i) && true) (λ i. f (suc i)) (λ i l. and-true (f (suc i)))))
+    go (no! p) ih =
+        let s = any-later k f p h in
+        and-even (word (suc k) f) (word k (λ i. f (suc i))) (half k f) (odd k f ∙ rw p) (some-word k (λ i. f (suc i)) s)
+        ∙ ap (λ (v : ℕ). v * 2) (ih s)
+        ∙ sym (ap (λ (t : ℕ). word (suc k) (g t)) (lowest-later k f p)
+        ∙ up (suc (trailingZeros k (word k (λ i. f (suc i))))) (λ i. eqb i (trailingZeros k (word k (λ i. f (suc i))))) (λ i. eqb·suc-suc i _) (rw p))
+
+-- the same of a word that is not 0
+module _ (w : ℕ) (fits : w < 2 ^ 64) (some : w ≡ 0 → ⊥) where
+  has : any 64 (testBit w) ≡ true
+  has = sym (word-zero 64 (testBit w)) ∙ ap (λ (v : ℕ). not (eqb v 0)) (word-bits 64 w fits) ∙ rw (ne-eqb w 0 some)
+
+  pub lowest-of : Lowest 64 (testBit w) (trailingZeros 64 w)
+  lowest-of = subst (λ (v : ℕ). Lowest 64 (testBit w) (trailingZeros 64 v)) (word-bits 64 w fits) (lowest-bit 64 (testBit w) has)
+
+  pub test-without : (k : ℕ) → k < 64 → testBit (bitAnd w (w - 1)) k ≡ (testBit w k && not (eqb k (trailingZeros 64 w)))
+  test-without k l =
+      ap (λ (v : ℕ). testBit v k) (subst (λ (v : ℕ). bitAnd v (v - 1) ≡ word 64 (λ i. testBit w i && not (eqb i (trailingZeros 64 v)))) (word-bits 64 w fits) (without-lowest 64 (testBit w) has))
+      ∙ test-word 64 (λ i. testBit w i && not (eqb i (trailingZeros 64 w))) k l
+
+-- 0 has no bit
+pub test-none : (k : ℕ) → testBit 0 k ≡ false
+test-none k = rw (zero-div (2 ^ k))
+
+-- some number of two parts
+pub any-append : (a b : ℕ) (f : ℕ → Bool) → any (a + b) f ≡ (any a f || any b (λ k. f (a + k)))
+unfolding any
+any-append a zero f = rw (add-zero a) (sym (or-false (any a f)))
+any-append a (suc b) f = rw (add-suc a b, any-append a b f) (flip (f (a + b)) (any a f) (any b (λ k. f (a + k))))
+  where
+    flip : (x y z : Bool) → (x || (y || z)) ≡ (y || (x || z))
+    flip true true z = refl
+    flip true false z = refl
+    flip false y z = refl

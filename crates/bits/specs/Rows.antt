@@ -46,6 +46,10 @@ startingIn S R x y = S x && R x y
 abbrev pub endingIn : (ℕ → Bool) → (ℕ → ℕ → Bool) → ℕ → ℕ → Bool
 endingIn S R x y = R x y && S y
 
+-- the row of x where the flag is set, else nothing
+abbrev pub keptRow : Bool → (ℕ → ℕ → Bool) → ℕ → ℕ → Bool
+keptRow b R x y = b && R x y
+
 -- from every node the pairs of z
 abbrev pub fromNode : ℕ → (ℕ → ℕ → Bool) → ℕ → ℕ → Bool
 fromNode z R x y = R z y

@@ -18,10 +18,10 @@ use Rattle.steps.specs.Moves.{hop, plus, star}
 use Rattle.steps.proofs.Closure.{hop-falls, hop-is}
 use Rattle.steps.proofs.Loops.{reach, hop-at, plus-at, sending, part, part-all, part-more}
 use Rattle.bits.specs.BitTables.{bitRelation}
-use Rattle.bits.specs.Rows.{Becomes, RowBecomes, startingIn}
+use Rattle.bits.specs.Rows.{Becomes, RowBecomes, startingIn, keptRow}
 use Rattle.bits.proofs.Rows.{row-other}
 use Rattle.moves.specs.Columns.{Moved}
-use Rattle.moves.specs.Rows.{joinedRows, keptRow, lower}
+use Rattle.moves.specs.Rows.{joinedRows, lower}
 use Rattle.moves.proofs.Columns.{moved-of}
 
 -- nothing is written yet

@@ -1,6 +1,5 @@
 -- Laws of rows that are written word by word.
 use Prim.Native.Nat.{ℕ, _+_, _*_, _/_, _%_, _^_, _≤_, _<_}
-use native.Mathlib.Nat.{zero-div}
 use native.Mathlib.Omega.{arith}
 use mathlib.Core.Path.{_≡_, refl, sym, ap, ap₂, _∙_}
 use mathlib.Core.Logic.{⊎-elim}
@@ -13,10 +12,10 @@ use Rattle.model.proofs.Booleans.{lt-or-le}
 use Rattle.sets.specs.NodeSets.{always}
 use Rattle.bits.specs.Words.{testBit}
 use Rattle.bits.specs.BitTables.{bitRelation}
-use Rattle.bits.specs.Rows.{RowBecomes}
-use Rattle.bits.proofs.Words.{word-or, word-bits, test-word}
+use Rattle.bits.specs.Rows.{RowBecomes, keptRow}
+use Rattle.bits.proofs.Words.{test-or, test-none}
 use Rattle.bits.proofs.Rows.{bit-at}
-use Rattle.moves.specs.Rows.{joinedRows, keptRow}
+use Rattle.moves.specs.Rows.{joinedRows}
 
 -- row x is written: four words are stored
 abbrev pub stored : List ℕ → ℕ → ℕ → ℕ → ℕ → ℕ → List ℕ
@@ -83,17 +82,9 @@ module _ (w : List ℕ) (x a b c d : ℕ) (h : 4 * x + 4 ≤ length w) where
 word-bit : (w : List ℕ) (x y i k : ℕ) → 4 * x + y / 64 ≡ i → y % 64 ≡ k → testBit (getD w i 0) k ≡ bitRelation w x y
 word-bit w x y i k p q = sym (bit-at w x y ∙ ap₂ (λ (u v : ℕ). testBit (getD w u 0) v) p q)
 
-or-test : (a b k : ℕ) → a < 2 ^ 64 → b < 2 ^ 64 → k < 64 → testBit (bitOr a b) k ≡ (testBit a k || testBit b k)
-or-test a b k fa fb l =
-    ap (λ (v : ℕ). testBit v k) (ap₂ bitOr (sym (word-bits 64 a fa)) (sym (word-bits 64 b fb)) ∙ word-or 64 (testBit a) (testBit b))
-    ∙ test-word 64 (λ i. testBit a i || testBit b i) k l
-
 module _ (w : List ℕ) (x : ℕ) (h : 4 * x + 4 ≤ length w) where
   pub row-clear : RowBecomes x (always false) w (stored w x 0 0 0 0)
-  row-clear = row-put w x 0 0 0 0 h (always false) none none none none
-    where
-      none : (k : ℕ) → k < 64 → testBit 0 k ≡ false
-      none k l = rw (zero-div (2 ^ k))
+  row-clear = row-put w x 0 0 0 0 h (always false) (λ k l. test-none k) (λ k l. test-none k) (λ k l. test-none k) (λ k l. test-none k)
 
   pub row-copy : (y : ℕ) → RowBecomes x (bitRelation w y) w (stored w x (getD w (4 * y) 0) (getD w (4 * y + 1) 0) (getD w (4 * y + 2) 0) (getD w (4 * y + 3) 0))
   row-copy y = row-put w x _ _ _ _ h (bitRelation w y)
@@ -116,12 +107,9 @@ module _ (w : List ℕ) (x : ℕ) (h : 4 * x + 4 ≤ length w) where
     where
       both : (m i j k : ℕ) → 4 * x + m / 64 ≡ i → 4 * y + m / 64 ≡ j → m % 64 ≡ k → k < 64 → testBit (bitOr (getD w i 0) (getD w j 0)) k ≡ joinedRows (bitRelation w) x y m
       both m i j k p q e l =
-          or-test (getD w i 0) (getD w j 0) k (f i) (f j) l ∙ ap₂ (λ (u v : Bool). u || v) (word-bit w x m i k p e) (word-bit w y m j k q e)
+          test-or (getD w i 0) (getD w j 0) k (f i) (f j) l ∙ ap₂ (λ (u v : Bool). u || v) (word-bit w x m i k p e) (word-bit w y m j k q e)
 
 -- a row that is kept where a flag is set
-
-pub row-stays : (x : ℕ) (w : List ℕ) → RowBecomes x (bitRelation w x) w w
-row-stays x w = record { size = refl; bits = λ y l. refl; before = λ i l. refl; behind = λ i l. refl }
 
 module _ (x y : ℕ) (w o : List ℕ) (b : Bool) where
   pub row-kept : RowBecomes x (bitRelation w y) w o → b ≡ true → RowBecomes x (keptRow b (bitRelation w) y) w o

@@ -1,15 +1,11 @@
 -- What is written to a row. W is the relation that the table holds before.
 use Prim.Native.Nat.{ℕ}
-use mathlib.Core.Bool.{Bool, _&&_, _||_, cond}
+use mathlib.Core.Bool.{Bool, _||_, cond}
 use lib.Dec.{ltb}
 
 -- two rows joined
 abbrev pub joinedRows : (ℕ → ℕ → Bool) → ℕ → ℕ → ℕ → Bool
 joinedRows W a b k = W a k || W b k
-
--- row x where the flag is set, else nothing
-abbrev pub keptRow : Bool → (ℕ → ℕ → Bool) → ℕ → ℕ → Bool
-keptRow b W x k = b && W x k
 
 -- y's link, or y where it has none
 unfoldable pub lower : (ℕ → ℕ) → ℕ → ℕ

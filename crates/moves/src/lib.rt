@@ -125,7 +125,7 @@ fn keep_named(tree: &[u16], name: usize, acc: &mut [u64])
     let mut y = 0;
     while y < n {
         let kept = steps::matches_tag(name, tree::tag(tree, y));
-        row::keep(acc, y, kept);
+        tables::row::keep_if(acc, y, kept);
         y += 1;
     }
 }

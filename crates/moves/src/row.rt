@@ -6,8 +6,8 @@ ghost use lib.ListN.{length};
 ghost use lib.Dec.{ltb};
 ghost use Rattle.sets.specs.NodeSets.{always};
 ghost use Rattle.bits.specs.BitTables.{bitRelation};
-ghost use Rattle.bits.specs.Rows.{RowBecomes};
-ghost use Rattle.moves.specs.Rows.{joinedRows, keptRow};
+ghost use Rattle.bits.specs.Rows.{RowBecomes, keptRow};
+ghost use Rattle.moves.specs.Rows.{joinedRows};
 
 // A row is joined with another, or with itself.
 pub fn join(w: &mut [u64], to: usize, from: usize)
@@ -66,15 +66,4 @@ pub fn pull(w: &mut [u64], to: usize, from: usize)
         return;
     }
     clear(w, to);
-}
-
-// A row stays, or becomes empty where the flag is not set.
-pub fn keep(w: &mut [u64], x: usize, kept: bool)
-    requires { ⌜ 4 * x + 4 ≤ length (now w) ⌝ }
-    ensures { λ _. ⌜ RowBecomes x (keptRow kept (bitRelation (now (w .entry))) x) (now (w .entry)) (now (w .exit)) ⌝ }
-{
-    if kept {
-        return;
-    }
-    clear(w, x);
 }

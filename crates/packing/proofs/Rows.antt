@@ -1,7 +1,7 @@
 -- Laws of the loops that write a table row after row.
-use Prim.Native.Nat.{ℕ, zero, suc, _+_, _-_, _*_, _/_, _%_, _^_, _≤_, _<_}
+use Prim.Native.Nat.{ℕ, zero, suc, _+_, _-_, _*_, _/_, _%_, _≤_, _<_}
 use native.Mathlib.Numerals.{add-one}
-use native.Mathlib.Nat.{add-comm, mul-le-mul-right}
+use native.Mathlib.Nat.{mul-le-mul-right}
 use native.Mathlib.Omega.{arith}
 use mathlib.Core.Path.{_≡_, refl, sym, ap, _∙_}
 use mathlib.Core.Bool.{Bool, _&&_}
@@ -9,8 +9,6 @@ use mathlib.Core.List.{List, [], _∷_, _++_, append-assoc}
 use lib.ListN.{length, getD, take, drop, set, length-append, length-drop}
 use lib.Seq.{take-at, drop-at, drop-drop, length-take-le, sets-eq, paste-zero}
 use lib.Dec.{ltb}
-use lib.Pow.{shl-exact}
-use lib.Bits.{bitOr, or-shifted-r}
 use borrow.Author.Tests.{lt-ltb, le-ltb}
 use Rattle.model.specs.Sets.{bit, tab, memb, upto}
 use Rattle.model.specs.Results.{cell}
@@ -18,7 +16,7 @@ use Rattle.model.proofs.Bytes.{tab-cong, tab-snoc, tab-append, length-tab, fron
 use Rattle.sets.specs.NodeSets.{shifted}
 use Rattle.bits.specs.Words.{testBit, word, words, hasBit}
 use Rattle.bits.specs.BitTables.{bitCell, bitTable, byteTable, bitRelation, byteRelation}
-use Rattle.bits.proofs.Words.{bit-lt, word-lt, word-cong, word-none, word-short, word-snoc, length-words, words-of, words-cong, words-append, hasBit-at}
+use Rattle.bits.proofs.Words.{word-cong, word-none, word-short, length-words, words-of, words-cong, words-append, hasBit-at}
 use Rattle.packing.specs.Parts.{rowBit, rowPart}
 
 -- one bit more of a word
@@ -26,11 +24,6 @@ use Rattle.packing.specs.Parts.{rowBit, rowPart}
 pub pack-start : (f : ℕ → Bool) → 0 ≡ word 0 f
 unfolding word
 pack-start f = refl
-
-pub pack-more : (f : ℕ → Bool) (w k v : ℕ) → w ≡ word k f → v ≡ bit (f k) → k < 64 → bitOr w ((v * 2 ^ k) % 2 ^ 64) ≡ word (k + 1) f
-pack-more f w k v p q l =
-    rw (p, q, add-one k, shl-exact {a = bit (f k)} 1 k 64 (bit-lt (f k)) (omega arith), or-shifted-r (bit (f k)) k (word k f) (word-lt k f), word-snoc k f)
-    (add-comm (bit (f k) * 2 ^ k) (word k f))
 
 pub pack-done : (f : ℕ → Bool) (w k n : ℕ) → w ≡ word k f → k ≤ n → n ≤ k → w ≡ word n f
 pack-done f w k n p a b = p ∙ ap (λ (x : ℕ). word x f) (omega arith)

@@ -1,9 +1,9 @@
 -- Laws of the check for stray bits: a word at a time, by a shift.
-use Prim.Native.Nat.{ℕ, zero, suc, _+_, _-_, _*_, _/_, _%_, _^_, _≤_, _<_}
-use native.Mathlib.Nat.{add-zero, add-suc, div-one}
+use Prim.Native.Nat.{ℕ, _+_, _-_, _*_, _/_, _%_, _^_, _≤_, _<_}
+use native.Mathlib.Nat.{div-one}
 use native.Mathlib.Omega.{arith}
 use mathlib.Core.Path.{_≡_, refl, sym, ap, _∙_}
-use mathlib.Core.Bool.{Bool, true, false, not, _&&_, _||_}
+use mathlib.Core.Bool.{Bool, false, not, _&&_, _||_, or-comm}
 use mathlib.Core.List.{List}
 use lib.ListN.{getD}
 use lib.Dec.{ltb, eqb}
@@ -13,7 +13,7 @@ use Rattle.model.proofs.Booleans.{bool-ext}
 use Rattle.model.proofs.Exists.{any-cong, any-never}
 use Rattle.bits.specs.Words.{testBit}
 use Rattle.bits.specs.BitTables.{bitRelation}
-use Rattle.bits.proofs.Words.{any-from}
+use Rattle.bits.proofs.Words.{any-from, any-append}
 use Rattle.bits.proofs.Rows.{bit-at}
 use Rattle.packing.specs.Services.{stray, strayRow}
 use Rattle.packing.specs.Parts.{strayBit}
@@ -42,15 +42,6 @@ module _ (n first w : ℕ) where
 
 -- a row
 
-any-append : (a m : ℕ) (f : ℕ → Bool) → any (a + m) f ≡ (any m (λ k. f (a + k)) || any a f)
-unfolding any
-any-append a zero f = rw (add-zero a)
-any-append a (suc m) f = rw (add-suc a m, any-append a m f) (joined (f (a + m)) (any m (λ k. f (a + k))) (any a f))
-  where
-    joined : (a b c : Bool) → (a || (b || c)) ≡ ((a || b) || c)
-    joined true b c = refl
-    joined false b c = refl
-
 module _ (n : ℕ) (w : List ℕ) (x : ℕ) where
   pub stray-start : false ≡ any (64 * 0) (stray n w x)
   unfolding any
@@ -59,7 +50,7 @@ module _ (n : ℕ) (w : List ℕ) (x : ℕ) where
   pub stray-more : (b t : Bool) (i : ℕ) → b ≡ any (64 * i) (stray n w x) → t ≡ any 64 (strayBit n (64 * i) (getD w (4 * x + i) 0)) → (t || b) ≡ any (64 * (i + 1)) (stray n w x)
   stray-more b t i p q =
       rw (p, q, any-cong 64 (strayBit n (64 * i) (getD w (4 * x + i) 0)) (λ k. stray n w x (64 * i + k)) (λ k l. ap (λ (c : Bool). not (ltb (64 * i + k) n) && c) (sym (at k l))))
-      (sym (any-append (64 * i) 64 (stray n w x)) ∙ ap (λ (m : ℕ). any m (stray n w x)) (let e : 64 * i + 64 ≡ 64 * (i + 1) = omega arith in e))
+      (sym (any-append (64 * i) 64 (stray n w x) ∙ or-comm (any (64 * i) (stray n w x)) (any 64 (λ k. stray n w x (64 * i + k)))) ∙ ap (λ (m : ℕ). any m (stray n w x)) (let e : 64 * i + 64 ≡ 64 * (i + 1) = omega arith in e))
     where
       at : (k : ℕ) → k < 64 → bitRelation w x (64 * i + k) ≡ testBit (getD w (4 * x + i) 0) k
       at k l =

@@ -16,17 +16,16 @@ use Rattle.model.proofs.Exists.{any-intro, any-elim, any-cong, any-never, any-o
 use Rattle.bits.specs.Words.{testBit, word, words, hasBit}
 use Rattle.bits.specs.BitTables.{bitRelation}
 use Rattle.bits.specs.Rows.{composed}
-use Rattle.bits.proofs.Words.{words-cong}
+use Rattle.bits.proofs.Words.{words-cong, lowest-of, test-without, test-none, any-append}
 use Rattle.tables.specs.Tables.{joinedRow, byWord, joinedWord}
-use Rattle.tables.proofs.Words.{lowest-of, test-without, test-zero-word}
-use Rattle.tables.proofs.Rows.{row-bit, row-is, bit-in, any-append, empty-set}
+use Rattle.tables.proofs.Rows.{row-bit, row-is, bit-in, empty-set}
 
 -- what is reached from the nodes that a word names
 
 module _ (n : ℕ) (K : ℕ → ℕ → Bool) (base : ℕ) where
   pub by-none : (y : ℕ) → byWord n K base 0 y ≡ false
   unfolding byWord
-  by-none y = any-never 64 _ (λ k l. rw (test-zero-word k))
+  by-none y = any-never 64 _ (λ k l. rw (test-none k))
 
   module _ (w : ℕ) (fits : w < 2 ^ 64) (some : w ≡ 0 → ⊥) where
     -- all its nodes are beyond n

@@ -1,6 +1,6 @@
 -- Laws of rows of four words: read, written, joined, occupied; sets of four words.
 use Prim.Native.Nat.{ℕ, zero, suc, _+_, _*_, _/_, _%_, _^_, _≤_, _<_}
-use native.Mathlib.Nat.{add-zero, add-suc, zero-add}
+use native.Mathlib.Nat.{add-zero, zero-add}
 use native.Mathlib.Omega.{arith}
 use mathlib.Core.Path.{_≡_, refl, sym, ap, ap₂, _∙_}
 use mathlib.Core.Logic.{⊎-elim}
@@ -16,11 +16,10 @@ use Rattle.model.proofs.Exists.{any-cong}
 use Rattle.sets.specs.NodeSets.{only, combine}
 use Rattle.bits.specs.Words.{testBit, word, words, hasBit}
 use Rattle.bits.specs.BitTables.{bitRelation}
-use Rattle.bits.specs.Rows.{RowBecomes, hasPair}
-use Rattle.bits.proofs.Words.{word-cong, word-none, word-zero, test-word, length-words, getD-words, hasBit-words, words-of, words-cong, hasBit-at, word-at}
+use Rattle.bits.specs.Rows.{RowBecomes, hasPair, keptRow}
+use Rattle.bits.proofs.Words.{word-cong, word-none, word-zero, test-word, length-words, getD-words, hasBit-words, words-of, words-cong, hasBit-at, word-at, test-none, any-append}
 use Rattle.bits.proofs.Rows.{bit-at}
-use Rattle.tables.specs.Tables.{mergedBits, mergedSets, onlyIf, joinedRow, keptRow}
-use Rattle.tables.proofs.Words.{test-zero-word}
+use Rattle.tables.specs.Tables.{mergedBits, mergedSets, onlyIf, joinedRow}
 
 -- four words
 
@@ -105,31 +104,21 @@ put-row w r x h = record {
 
 -- a row that stays, and one that is cleared
 
-pub row-stays : (b : Bool) (x : ℕ) (w : List ℕ) → b ≡ true → RowBecomes x (keptRow b w x) w w
+pub row-stays : (b : Bool) (x : ℕ) (w : List ℕ) → b ≡ true → RowBecomes x (keptRow b (bitRelation w) x) w w
 row-stays b x w p = record { size = refl; bits = λ y l. ap (λ (c : Bool). c && bitRelation w x y) (sym p); before = λ i l. refl; behind = λ i l. refl }
 
-pub row-cleared : (b : Bool) (x : ℕ) (w o : List ℕ) → RowBecomes x (hasBit (replicate 4 0)) w o → b ≡ false → RowBecomes x (keptRow b w x) w o
+pub row-cleared : (b : Bool) (x : ℕ) (w o : List ℕ) → RowBecomes x (hasBit (replicate 4 0)) w o → b ≡ false → RowBecomes x (keptRow b (bitRelation w) x) w o
 unfolding hasBit
 row-cleared b x w o r p = record {
   size = r .size;
   bits = λ y l.
-      r .bits y l ∙ ap (λ (v : ℕ). testBit v (y % 64)) (getD-replicate 4 (y / 64) 0 0 (omega arith)) ∙ test-zero-word (y % 64)
+      r .bits y l ∙ ap (λ (v : ℕ). testBit v (y % 64)) (getD-replicate 4 (y / 64) 0 0 (omega arith)) ∙ test-none (y % 64)
       ∙ ap (λ (c : Bool). c && bitRelation w x y) (sym p);
   before = r .before;
   behind = r .behind;
 }
 
 -- a row with a bit set
-
-pub any-append : (a b : ℕ) (f : ℕ → Bool) → any (a + b) f ≡ (any a f || any b (λ k. f (a + k)))
-unfolding any
-any-append a zero f = rw (add-zero a) (sym (or-false (any a f)))
-any-append a (suc b) f = rw (add-suc a b, any-append a b f) (flip (f (a + b)) (any a f) (any b (λ k. f (a + k))))
-  where
-    flip : (x y z : Bool) → (x || (y || z)) ≡ (y || (x || z))
-    flip true true z = refl
-    flip true false z = refl
-    flip false y z = refl
 
 module _ (w : List ℕ) (x : ℕ) where
   some-bit : (j i : ℕ) → i ≡ 4 * x + j → getD w i 0 < 2 ^ 64 → not (eqb (getD w i 0) 0) ≡ any 64 (λ k. bitRelation w x (64 * j + k))

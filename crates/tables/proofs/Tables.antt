@@ -13,10 +13,10 @@ use Rattle.model.proofs.Exists.{any-cong}
 use Rattle.sets.specs.NodeSets.{only, combine}
 use Rattle.bits.specs.Words.{testBit, word, words, hasBit}
 use Rattle.bits.specs.BitTables.{bitRelation}
-use Rattle.bits.specs.Rows.{Becomes, RowBecomes, diagonal, endingIn, startingIn, fromNode, composed}
+use Rattle.bits.specs.Rows.{Becomes, RowBecomes, diagonal, endingIn, startingIn, fromNode, composed, keptRow}
 use Rattle.bits.proofs.Words.{test-word}
 use Rattle.bits.proofs.Rows.{bit-at, row-same, row-other}
-use Rattle.tables.specs.Tables.{joined, mergedBits, joinedBits, keptRow}
+use Rattle.tables.specs.Tables.{joined, mergedBits, joinedBits}
 use Rattle.tables.proofs.Rows.{row-bit}
 
 -- word by word
@@ -125,10 +125,10 @@ pub spread-more : (z x : ℕ) (w l o r : List ℕ) → Becomes x (fromNode z (bi
     → Becomes (x + 1) (fromNode z (bitRelation w)) w o
 spread-more z x w l o r b p q = rows-more (fromNode z (bitRelation w)) (hasBit r) x w l o b p (λ y h. row-bit r (bitRelation w z) q y h)
 
-pub keep-more : (s : List ℕ) (c : Bool) (x : ℕ) (w l o : List ℕ) → Becomes x (startingIn (hasBit s) (bitRelation w)) w l → RowBecomes x (keptRow c l x) l o
+pub keep-more : (s : List ℕ) (c : Bool) (x : ℕ) (w l o : List ℕ) → Becomes x (startingIn (hasBit s) (bitRelation w)) w l → RowBecomes x (keptRow c (bitRelation l) x) l o
     → c ≡ testBit (getD s (x / 64) 0) (x % 64) → Becomes (x + 1) (startingIn (hasBit s) (bitRelation w)) w o
 unfolding hasBit
-keep-more s c x w l o b p q = rows-more (startingIn (hasBit s) (bitRelation w)) (keptRow c l x) x w l o b p
+keep-more s c x w l o b p q = rows-more (startingIn (hasBit s) (bitRelation w)) (keptRow c (bitRelation l) x) x w l o b p
     (λ y h. ap₂ (λ (d e : Bool). d && e) q (row-kept (startingIn (hasBit s) (bitRelation w)) x w l b x y (omega arith) h))
 
 pub compose-more : (n : ℕ) (kept : List ℕ) (x : ℕ) (w l o r : List ℕ) → Becomes x (composed n (bitRelation w) (bitRelation kept)) w l → RowBecomes x (hasBit r) l o

@@ -39,10 +39,6 @@ fullFrom n base k = upto n (always true) (base + k)
 abbrev pub joinedRow : List ℕ → List ℕ → ℕ → ℕ → Bool
 joinedRow r w z y = hasBit r y || bitRelation w z y
 
--- row x of a table if b, else nothing
-abbrev pub keptRow : Bool → List ℕ → ℕ → ℕ → Bool
-keptRow b w x y = b && bitRelation w x y
-
 -- y is reached under K from a node that a word names: bit k is node base + k, and only nodes below n count
 unfoldable pub byWord : ℕ → (ℕ → ℕ → Bool) → ℕ → ℕ → ℕ → Bool
 byWord n K base w y = any 64 (λ k. (testBit w k && ltb (base + k) n) && K (base + k) y)

@@ -4,8 +4,8 @@ ghost use mathlib.Core.Path.{_≡_};
 ghost use lib.ListN.{length};
 ghost use Rattle.bits.specs.Words.{words, hasBit};
 ghost use Rattle.bits.specs.BitTables.{bitRelation};
-ghost use Rattle.bits.specs.Rows.{RowBecomes, hasPair};
-ghost use Rattle.tables.specs.Tables.{joinedRow, keptRow};
+ghost use Rattle.bits.specs.Rows.{RowBecomes, keptRow, hasPair};
+ghost use Rattle.tables.specs.Tables.{joinedRow};
 
 // Row x of a table.
 pub fn get(w: &[u64], x: usize) -> [u64; 4]
@@ -31,7 +31,7 @@ pub fn put(w: &mut [u64], x: usize, r: [u64; 4])
 // Row x stays if b, else it is cleared.
 pub fn keep_if(w: &mut [u64], x: usize, b: bool)
     requires { ⌜ 4 * x + 4 ≤ length (now w) ⌝ }
-    ensures { λ _. ⌜ RowBecomes x (keptRow b (now (w .entry)) x) (now (w .entry)) (now (w .exit)) ⌝ }
+    ensures { λ _. ⌜ RowBecomes x (keptRow b (bitRelation (now (w .entry))) x) (now (w .entry)) (now (w .exit)) ⌝ }
 {
     if b {
         return;

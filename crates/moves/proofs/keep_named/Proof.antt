@@ -25,8 +25,8 @@ tag-requires c κs = search needs
 matches-tag-requires : tie.Need-matches-tag-requires Inv-loop μ-loop
 matches-tag-requires c κs = search needs
 
-keep-requires : tie.Need-keep-requires Inv-loop μ-loop
-keep-requires c κs = omega arith
+keep-if-requires : tie.Need-keep-if-requires Inv-loop μ-loop
+keep-if-requires c κs = omega arith
 
 add-y : tie.Need-add-y Inv-loop μ-loop
 add-y c = omega arith
@@ -35,7 +35,7 @@ loop-less : tie.Need-loop-less Inv-loop μ-loop
 loop-less c = omega arith
 
 loop-again : tie.Need-loop-again Inv-loop μ-loop
-loop-again c = (omega arith, (c .before .before .before .before .before .before .before .loop .inv .1 .0, keep-more _ _ _ _ _ _ _ _ _ (c .before .before .before .before .before .before .before .loop .inv .1 .1) (c .before .before .keep .ensures) (c .before .before .before .before .matches-tag .ensures) (c .before .before .before .before .before .tag .ensures) (omega arith)))
+loop-again c = (omega arith, (c .before .before .before .before .before .before .before .loop .inv .1 .0, keep-more _ _ _ _ _ _ _ _ _ (c .before .before .before .before .before .before .before .loop .inv .1 .1) (c .before .before .keep-if .ensures) (c .before .before .before .before .matches-tag .ensures) (c .before .before .before .before .before .tag .ensures) (omega arith)))
 
 same-length : tie.Need-same-length Inv-loop μ-loop
 same-length c = c .before .loop .inv .1 .1 .size
@@ -52,7 +52,7 @@ keep-named-spec =
     loop-holds
     tag-requires
     matches-tag-requires
-    keep-requires
+    keep-if-requires
     add-y
     loop-less
     loop-again

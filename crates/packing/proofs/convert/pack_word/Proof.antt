@@ -5,7 +5,8 @@ use borrow.Author.Needs.{needs}
 use Rattle.model.specs.Sets.{memb}
 use Rattle.sets.specs.NodeSets.{shifted}
 use Rattle.bits.specs.Words.{word}
-use Rattle.packing.proofs.Rows.{pack-start, pack-more, pack-done}
+use Rattle.bits.proofs.Words.{word-more}
+use Rattle.packing.proofs.Rows.{pack-start, pack-done}
 use Rattle.packing.proofs.convert.pack_word.Statement.{statement}
 use Rattle.packing.proofs.convert.pack_word.Tie as tie
 
@@ -38,7 +39,7 @@ loop-less c = omega arith
 
 loop-again : tie.Need-loop-again Inv-loop μ-loop
 unfolding memb
-loop-again c = (omega arith, pack-more _ _ _ _ (c .before .before .before .loop .inv .1) (c .low-bit .ensures) (omega arith))
+loop-again c = (omega arith, word-more _ _ _ _ (c .before .before .before .loop .inv .1) (c .low-bit .ensures) (omega arith))
 
 returns : tie.Need-returns Inv-loop μ-loop
 returns c = search (pack-done, needs)

@@ -1,5 +1,5 @@
 use borrow.Author.Needs.{needs}
-use Rattle.tables.proofs.Words.{full-none, full-all, full-some, one-shifted}
+use Rattle.bits.proofs.Words.{one-shifted}
 use Rattle.tables.proofs.Words.{full-none, full-all, full-some}
 use Rattle.tables.proofs.word.full_from.Statement.{statement}
 use Rattle.tables.proofs.word.full_from.Tie as tie
