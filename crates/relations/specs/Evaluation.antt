@@ -1,5 +1,4 @@
--- What the evaluator over tables of bits asks for, and what it gives. The table that is being made stands at the front of the words
--- acc.
+-- What the evaluator over tables of bits asks for, and what it gives. The table that is being made stands at the front of `acc`.
 use Prim.Native.Nat.{ℕ, _+_, _*_, _≤_, _<_}
 use mathlib.Core.Path.{_≡_}
 use mathlib.Core.Bool.{Bool, false, cond}
