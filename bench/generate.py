@@ -114,6 +114,8 @@ RELATIONS = [
      path(step("child"), intersect(step("descendant"), path(step("child"), without(step("descendant"), step("child", 2)))))),
     ("(child::* union following-sibling::*)/descendant::t2", "(child::* | following-sibling::*)/descendant::t2",
      path(union(step("child"), step("following-sibling")), step("descendant", 2))),
+    ("(following::* union preceding::*)/following::*", "(following::* | preceding::*)/following::*",
+     path(union(step("following"), step("preceding")), step("following"))),
     ("(descendant::t2/following::*)[child::t3 or not(left::*)]", "(descendant::t2/following::*)[child::t3 or not(preceding-sibling::*)]",
      only(path(step("descendant", 2), step("following")), either(some(step("child", 3)), no(some(step("left")))))),
 ] + [(axis + "::*", {"right": "following-sibling::*[1]", "left": "preceding-sibling::*[1]"}.get(axis, SAME), step(axis)) for axis in AXES]
