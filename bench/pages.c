@@ -1,6 +1,11 @@
-/* Times pages of answers over the C boundary: rows a second for one, two and three variables at 6, 64 and 256 nodes. The trees
-   are the first nodes of the benchmark's tree. A run pages through the answers with a buffer of PAGE rows, from a fresh cursor,
-   until they end or RUN_NS have passed, and counts the rows that it was given. It prints a table in Markdown. */
+/* Times pages of answers over the C boundary, plain and quick, and the program. First rows a second for one, two and three variables at
+   6, 64 and 256 nodes, the first nodes of the benchmark's tree: a run pages through the answers with a buffer of PAGE rows, from a fresh
+   cursor, until they end or RUN_NS have passed, and counts the rows that it was given. Then the time to list all answers of a query at
+   256 nodes: by quick pages, by plain ones, and by the program, from a job file to its last line. Each must give exactly the rows that
+   are due, which are read off the tree; one difference ends the run with status 1. A time is the best of ROUNDS rounds, or of as many as
+   go into LIST_NS. It prints two tables in Markdown.
+
+       pages PROGRAM JOB      the program, and a file for its jobs */
 #include "geznauri.h"
 #include "bench.h"
 #include "tables.h"
@@ -10,20 +15,62 @@
 
 #define PAGE 256
 #define RUN_NS 3e8
+#define ROUNDS 7
+#define LIST_NS 2e9
+#define MOST_ROWS 256
+#define LENGTH(a) (sizeof(a) / sizeof *(a))
 
-/* Rows a second of one query over the first n nodes. */
-static double rate(const uint16_t *query, size_t length, uint16_t columns, size_t n)
+/* /descendant-or-self::*[. is $0]: a variable beyond the first plays no part, so that every row is an answer */
+static const uint16_t every[] = {0, 11, 0, 65535, 12, 0, 0, 0, 5, 0, 1, 0, 7, 2, 0, 0};
+/* /descendant-or-self::*[. is $0]/child::*[. is $1]: most rows are none */
+static const uint16_t children[] = {0, 11, 0, 65535, 12, 0, 0, 0, 5, 0, 1, 0, 7, 2, 0, 0,
+                                    0, 1, 0, 65535, 12, 1, 0, 0, 5, 4, 5, 0, 1, 3, 6, 0};
+/* child::aisle[. is $0]/child::bay[. is $1]/child::pallet[. is $2] */
+enum { HALL = 1, BAY, PALLET, AISLE };
+static const uint16_t places[] = {0, 1, 0, AISLE, 12, 0, 0, 0, 5, 0, 1, 0, 0, 1, 0, BAY, 12, 1, 0, 0, 5, 3, 4, 0, 1, 2, 5, 0,
+                                  0, 1, 0, PALLET, 12, 2, 0, 0, 5, 7, 8, 0, 1, 6, 9, 0};
+
+static void give_up_at(uint16_t number, uint16_t place)
+{
+    fprintf(stderr, "bench: a page is refused with %u at %u\n", number, place);
+    exit(1);
+}
+
+/* A query over the first nodes of a tree, and the answers that are due, where they are told. */
+struct list {
+    const char *text;
+    const uint16_t *tree;
+    size_t nodes;
+    const uint16_t *query;
+    size_t length;
+    uint16_t columns;
+    uint16_t due[3 * MOST_ROWS];
+    size_t count;
+};
+
+/* The next page. */
+static gz_quick_reply page_of(const struct list *l, int quick, gz_cursor *cursor, uint16_t *rows)
+{
+    gz_quick_reply q = {0};
+    if (quick) {
+        q = gz_quick_page(l->tree, 2 * l->nodes, l->query, l->length, l->columns, cursor, rows, (size_t)l->columns * PAGE);
+    } else {
+        gz_page_reply p = gz_page(l->tree, 2 * l->nodes, l->query, l->length, l->columns, cursor, rows, (size_t)l->columns * PAGE);
+        q = (gz_quick_reply){p.number, p.place, p.count, p.more, 0};
+    }
+    if (q.number != 0)
+        give_up_at(q.number, q.place);
+    return q;
+}
+
+/* Rows a second. */
+static double rate(const struct list *l, int quick)
 {
     static uint16_t rows[3 * PAGE];
-    gz_cursor cursor;
-    memset(&cursor, 0, sizeof cursor);
+    gz_cursor cursor = {0};
     double start = now(), found = 0;
     do {
-        gz_page_reply reply = gz_page(tree, 2 * n, query, length, columns, &cursor, rows, (size_t)columns * PAGE);
-        if (reply.number != 0) {
-            fprintf(stderr, "bench: a page is refused with %u at %u\n", reply.number, reply.place);
-            exit(1);
-        }
+        gz_quick_reply reply = page_of(l, quick, &cursor, rows);
         found += reply.count;
         if (!reply.more)
             memset(&cursor, 0, sizeof cursor);
@@ -31,25 +78,148 @@ static double rate(const uint16_t *query, size_t length, uint16_t columns, size_
     return found / (now() - start) * 1e9;
 }
 
-int main(void)
+static void rates(const char *what, const uint16_t *query, size_t length, uint16_t columns)
 {
-    /* /descendant-or-self::*[. is $0]: a variable beyond the first plays no part, so that every row is an answer */
-    static const uint16_t every[] = {0, 11, 0, 65535, 12, 0, 0, 0, 5, 0, 1, 0, 7, 2, 0, 0};
-    /* /descendant-or-self::*[. is $0]/child::*[. is $1]: most rows are none */
-    static const uint16_t children[] = {0, 11, 0, 65535, 12, 0, 0, 0, 5, 0, 1, 0, 7, 2, 0, 0,
-                                        0, 1, 0, 65535, 12, 1, 0, 0, 5, 4, 5, 0, 1, 3, 6, 0};
     static const size_t sizes[] = {6, 64, 256};
-    (void)queries;
-    printf("| answers | 6 nodes | 64 nodes | 256 nodes |\n|---|---:|---:|---:|\n");
-    for (uint16_t columns = 1; columns <= 3; columns++) {
-        printf("| every row, %u variable%s |", columns, columns > 1 ? "s" : "");
-        for (size_t i = 0; i < 3; i++)
-            printf(" %.0f |", rate(every, sizeof every / 2, columns, sizes[i]));
-        printf("\n");
+    printf("| %s, %u variable%s |", what, columns, columns > 1 ? "s" : "");
+    for (size_t i = 0; i < LENGTH(sizes); i++) {
+        struct list l = {.tree = tree, .nodes = sizes[i], .query = query, .length = length, .columns = columns};
+        double plain = rate(&l, 0), quick = rate(&l, 1);
+        printf(" %.0f | %.0f |", plain, quick);
+        fflush(stdout);
     }
-    printf("| parent and child, 2 variables |");
-    for (size_t i = 0; i < 3; i++)
-        printf(" %.0f |", rate(children, sizeof children / 2, 2, sizes[i]));
     printf("\n");
+}
+
+static void same(int holds, const char *what)
+{
+    if (!holds) {
+        fprintf(stderr, "bench: %s differs from what is due\n", what);
+        exit(1);
+    }
+}
+
+/* All answers, by pages; answers how many evaluations quick ones took. */
+static size_t list_pages(const struct list *l, int quick)
+{
+    static uint16_t rows[3 * PAGE];
+    gz_cursor cursor = {0};
+    gz_quick_reply reply;
+    size_t given = 0, evaluations = 0;
+    do {
+        reply = page_of(l, quick, &cursor, rows);
+        same(given + reply.count <= l->count && memcmp(rows, l->due + given * l->columns, reply.count * l->columns * 2) == 0, l->text);
+        given += reply.count;
+        evaluations += reply.evaluations;
+    } while (reply.more);
+    same(given == l->count, l->text);
+    return evaluations;
+}
+
+/* All answers, by the program. */
+static const char *program, *job;
+
+static void write_job(const struct list *l)
+{
+    size_t query_at = 12 + 2 * l->length, tree_at = query_at + 4 * l->nodes;
+    uint16_t trailer[] = {(uint16_t)tree_at, (uint16_t)(2 * l->nodes), (uint16_t)query_at, (uint16_t)l->length, l->columns, 20564};
+    FILE *file = fopen(job, "wb");
+    if (!file || fwrite(l->tree, 4, l->nodes, file) != l->nodes || fwrite(l->query, 2, l->length, file) != l->length ||
+        fwrite(trailer, 2, 6, file) != 6 || fclose(file) != 0)
+        same(0, job);
+}
+
+static size_t list_program(const struct list *l, int unused)
+{
+    char command[1000], line[64], wanted[64];
+    (void)unused;
+    snprintf(command, sizeof command, "exec %s <%s", program, job);
+    FILE *printed = popen(command, "r");
+    for (size_t i = 0; i <= l->count; i++) {
+        size_t end = 0;
+        for (size_t k = 0; k < l->columns && i < l->count; k++)
+            end += (size_t)sprintf(wanted + end, k ? " %u" : "%u", l->due[i * l->columns + k]);
+        sprintf(wanted + end, i < l->count ? "\n" : "end %zu\n", l->count);
+        same(printed && fgets(line, sizeof line, printed) && strcmp(line, wanted) == 0, program);
+    }
+    same(fgets(line, sizeof line, printed) == NULL && pclose(printed) == 0, program);
+    return 0;
+}
+
+/* The best milliseconds. */
+static double best(size_t (*run)(const struct list *, int), const struct list *l, int quick)
+{
+    double best = 1e18, began = now();
+    for (int round = 0; round < ROUNDS && (round == 0 || now() - began < LIST_NS); round++) {
+        double start = now(), took;
+        run(l, quick);
+        took = (now() - start) / 1e6;
+        if (took < best)
+            best = took;
+    }
+    return best;
+}
+
+static void time_list(const struct list *l)
+{
+    size_t evaluations = list_pages(l, 1);
+    write_job(l);
+    double quick = best(list_pages, l, 1), printed = best(list_program, l, 0), plain = best(list_pages, l, 0);
+    printf("| `%s` | %zu | %zu | %.2f | %.2f | %.1f | %.2f |\n", l->text, l->count, evaluations, quick, plain, plain / quick, printed);
+    fflush(stdout);
+}
+
+/* A node and its child, in the benchmark's tree. */
+static void time_children(void)
+{
+    struct list l = {"/descendant-or-self::*[. is $0]/child::*[. is $1]", tree, NODES, children, LENGTH(children), 2, {0}, 0};
+    for (uint16_t x = 0; x < NODES; x++)
+        for (uint16_t y = 1; y < NODES; y++)
+            if (tree[2 * y] == x)
+                l.due[2 * l.count] = x, l.due[2 * l.count++ + 1] = y;
+    time_list(&l);
+}
+
+/* A hall of five aisles, each with five bays, each with nine pallets: 256 nodes and 225 answers. */
+static uint16_t hall[512], hall_nodes;
+
+static uint16_t put(uint16_t parent, uint16_t tag)
+{
+    hall[2 * hall_nodes] = parent, hall[2 * hall_nodes + 1] = tag;
+    return hall_nodes++;
+}
+
+static void time_places(void)
+{
+    struct list l = {"child::aisle[. is $0]/child::bay[. is $1]/child::pallet[. is $2]", hall, 256, places, LENGTH(places), 3, {0}, 0};
+    put(65535, HALL);
+    for (int i = 0; i < 5; i++) {
+        uint16_t aisle = put(0, AISLE);
+        for (int j = 0; j < 5; j++) {
+            uint16_t bay = put(aisle, BAY);
+            for (int k = 0; k < 9; k++) {
+                uint16_t row[] = {aisle, bay, put(bay, PALLET)};
+                memcpy(l.due + 3 * l.count++, row, sizeof row);
+            }
+        }
+    }
+    time_list(&l);
+}
+
+int main(int argc, char **argv)
+{
+    if (argc != 3) {
+        fprintf(stderr, "bench: the two arguments are the program and a file for its jobs\n");
+        return 1;
+    }
+    program = argv[1], job = argv[2];
+    printf("| answers, rows a second | 6 nodes | quick | 64 nodes | quick | 256 nodes | quick |\n|---|---:|---:|---:|---:|---:|---:|\n");
+    for (uint16_t columns = 1; columns <= 3; columns++)
+        rates("every row", every, LENGTH(every), columns);
+    rates("parent and child", children, LENGTH(children), 2);
+    printf("\n| all answers, 256 nodes | answers | evaluations | gz_quick_page, ms | gz_page, ms | ratio | picklist, ms |\n");
+    printf("|---|---:|---:|---:|---:|---:|---:|\n");
+    time_children();
+    time_places();
     return 0;
 }

@@ -103,6 +103,24 @@ SOUND_AND_NOT_LAST = entries(
     (COMPOSE, 2, 15, 0),
 )
 
+# child::aisle[. is $0]/child::bay[. is $1]/child::pallet[. is $2]: the place of each pallet
+PLACES = entries(
+    (STEP, CHILD, 0, AISLE),
+    (IS, 0, 0, 0),
+    (FILTER, 0, 1, 0),
+    (STEP, CHILD, 0, BAY),
+    (IS, 1, 0, 0),
+    (FILTER, 3, 4, 0),
+    (COMPOSE, 2, 5, 0),
+    (STEP, CHILD, 0, PALLET),
+    (IS, 2, 0, 0),
+    (FILTER, 7, 8, 0),
+    (COMPOSE, 6, 9, 0),
+)
+
+# Two aisles: 13 nodes.
+SMALL = table((HALL, aisle("pd", "p"), aisle("dp")))
+
 # Node 1 says that it is its own parent.
 OWN_PARENT = [ROOT_PARENT, HALL, 1, BAY, 1, PALLET]
 
@@ -112,6 +130,7 @@ JOBS = {
     "either": (TEACHING, EITHER, 2),
     "refused": (OWN_PARENT, BAYS_AND_PALLETS, 2),
     "aisles": (AISLES, SOUND_AND_NOT_LAST, 2),
+    "places": (SMALL, PLACES, 3),
 }
 
 if __name__ == "__main__":

@@ -4,7 +4,8 @@
  * The engine answers Core XPath queries with intersect, except and node variables over trees of up to 256 nodes. Trees and
  * queries are lent to it as tables of 16-bit numbers, and gz_read makes the table of a query that is typed. gz_index makes the
  * index of a tree, by which gz_descendants finds the descendants with a tag. All pairs of a query are given a byte a pair by gz_pairs,
- * and a bit a pair by gz_pairs_bits. This page describes them, every function, and every reply.
+ * and a bit a pair by gz_pairs_bits. The answers of a query with variables are given a page at a time by gz_page, and by gz_quick_page
+ * with far fewer evaluations where the query keeps a rule. This page describes them, every function, and every reply.
  *
  * To link: `./build` writes target/staticlib/libterminal.a, for x86-64 Linux.
  *
@@ -37,8 +38,8 @@
  * Stack. gz_check_tree, gz_check_query and gz_name take less than 1 KiB; gz_index, gz_descendants, gz_pack, gz_unpack and gz_read,
  * however deep its text nests, take less than 4 KiB. gz_pairs_bits takes less than 56 KiB for every query, so that its stack and a
  * relation of 256 nodes in bits, 8 KiB, take less than the 64 KiB of one in bytes; the worst shape that was measured takes 48,320
- * bytes, and a run of steps less than 16 KiB. The others take less than 8 KiB for a query of one level, and less than 4 KiB for each
- * further level of its nesting (section 3); there are 64 levels at most, so that no call takes 260 KiB.
+ * bytes, and a run of steps less than 16 KiB. The others take less than 8 KiB for a query of one level, gz_quick_page less than 12 KiB,
+ * and all less than 4 KiB for each further level of its nesting (section 3); there are 64 levels at most, so that no call takes 264 KiB.
  *
  * Everything is counted from 0. Numbers of tables are in the machine's own byte order.
  *
@@ -160,6 +161,30 @@
  *             printf("bay %u, pallet %u\n", rows[2 * i], rows[2 * i + 1]);
  *     } while (page.more);
  *
+ * gz_page tries one row after the other, an evaluation of the query for each. gz_quick_page finds a row variable by variable: it gives a
+ * variable one node after the other, while the variables behind it stand for any node, and one evaluation tells whether an answer begins
+ * so. That is exact for the queries that keep this rule, and it refuses the others (29), which gz_page takes:
+ *
+ *     no variable stands in both operands of a compose, of a filter, or of an and;
+ *     no variable stands under an intersect, an except, or a not.
+ *
+ * A variable may stand in both operands of a union or of an or, and intersect, except and not may stand where no variable is under them.
+ * The bays with their pallets keep the rule; .[. is $0]/self::2[. is $0], $0 intersect self::2 and self::2[not(. is $0)] do not.
+ *
+ * Rows, cursor, count and more are those of gz_page, whatever the cursor and the buffer, so that calls of either may follow calls of the
+ * other over one cursor. Beside them stands how many evaluations of the query were made. A call finds the first answer, or the first
+ * after the cursor's row, and after each row that it writes the next one, or that there is none, which tells more. With (a0, a1, ..) and
+ * (b0, b1, ..) for rows, one node for each variable, this takes
+ *
+ *     to find                                    evaluations
+ *     (b0, b1, ..), the first answer             1, and bi + 1 for each variable i; 1 where there is no answer
+ *     (b0, b1, ..) after (a0, a1, ..)            bj - aj for the first variable j in which they differ, and n - 1 - ai and bi + 1 for
+ *                                                each variable i behind it
+ *     that none comes after (a0, a1, ..)         n - 1 - ai for each variable i
+ *
+ * Each is at most 6 n, so that a call takes at most 6 n (count + 1). The bays with their pallets, two rows a call, take 18 evaluations
+ * for (1, 2), (1, 3) and that there is more, 12 for (4, 5) and that there is none, and 1 where the cursor is at (4, 5).
+ *
  *
  * 6  NAME TABLES
  *
@@ -249,8 +274,9 @@
  *
  * A reply has number 0 and place 0 if the call is accepted. Else number says what is wrong and place where. Checks are made
  * in the order of the numbers, each over all that it looks at before the next begins; the first that fails is the reply, at
- * the lowest place that is at fault. Three functions have another order: gz_read 21, 23, 24, 25, 26, 20, gz_descendants 5, 6, 7, 36,
- * 27, 20, and gz_unpack 5, 18, 28, 20. Each function makes the checks that its description in section 11 names.
+ * the lowest place that is at fault. Four functions have another order: gz_read 21, 23, 24, 25, 26, 20, gz_descendants 5, 6, 7, 36,
+ * 27, 20, gz_unpack 5, 18, 28, 20, and gz_quick_page, which has 29 between 15 and 17. Each function makes the checks that its
+ * description in section 11 names.
  *
  *      number   refused because                                                             place
  *       5       the tree table is empty, of odd length, or longer than 512 numbers; n is    0
@@ -260,7 +286,7 @@
  *       7       a node's tag is 65535, or it is 65534 and the node is not node 0            the node
  *       8       the query table is empty, its length no multiple of four, or longer         0
  *               than 256 numbers
- *       9       columns is above 3, or is 0 for gz_page                                     0
+ *       9       columns is above 3, or is 0 for gz_page or gz_quick_page                    0
  *      10       an entry's kind is above 12                                                 the entry
  *      11       a step's axis is above 12, a variable is not below columns, or a field      the entry
  *               that must be 0 is not
@@ -290,6 +316,8 @@
  *               a number that the chain reads is not 65535, and is not later than the       the node at which it
  *               node at which it is read, not below n, or of another tag                    is read
  *      28       a bit of the relation at or beyond n is set                                 the row
+ *      29       a variable stands in both operands of a compose, a filter or an and, or     the lowest such entry
+ *               under an intersect, an except or a not
  *      36       the start is not below n                                                    0
  *
  * Numbers 1 to 4 are of job files, which no function here reads.
@@ -305,7 +333,7 @@
    program that was written to the header before may break: another reply to the same call, a refusal of what was accepted or the
    reverse, another type, size or name. GZ_VERSION_MINOR is counted up where something is added and all else is as it was. */
 #define GZ_VERSION_MAJOR 3
-#define GZ_VERSION_MINOR 1
+#define GZ_VERSION_MINOR 2
 
 #ifdef __cplusplus
 extern "C" {
@@ -332,6 +360,15 @@ typedef struct {
     size_t count;
     bool more;
 } gz_page_reply;
+
+/* The reply to a quick page call: number, place, count and more as of a page call, and how many evaluations of the query it made. Of
+   a refused call, count and evaluations are 0 and more is false. */
+typedef struct {
+    uint16_t number, place;
+    size_t count;
+    bool more;
+    size_t evaluations;
+} gz_quick_reply;
 
 /* The reply to a reading: number and place as above, how many numbers the table has, and how many variables the query has. Of a
    refused call, count and columns are 0. */
@@ -418,6 +455,14 @@ gz_reply gz_unpack(uint16_t n, const uint64_t *words, size_t words_len, uint8_t 
    One evaluation for each row tried, at most n to the power of columns. */
 gz_page_reply gz_page(const uint16_t *tree, size_t tree_len, const uint16_t *query, size_t query_len, uint16_t columns,
                       gz_cursor *cursor, uint16_t *rows, size_t rows_len);
+
+/* The same page, found variable by variable, of a query that keeps the rule of section 5. It is lent what gz_page is lent. Refusals 5
+   to 15, 29, 17 and 20, in this order: 29 is told before cursor and buffer are looked at.
+   Accepted, the cursor and all of `rows` are as gz_page would leave them, count and more are as it would reply, and evaluations is the
+   number of section 5, at most 6 n (count + 1). Refused, the cursor and all of `rows` are as they were, and evaluations is 0.
+   The check of the rule takes time in proportion to query_len. */
+gz_quick_reply gz_quick_page(const uint16_t *tree, size_t tree_len, const uint16_t *query, size_t query_len, uint16_t columns,
+                             gz_cursor *cursor, uint16_t *rows, size_t rows_len);
 
 /* The name of a tag. Refusals 21 and 22; both tables are looked at before the tag. Accepted, *name is the part of the house's
    or the site's table that is the name, without its length byte; refused, *name is the empty part at the start of the

@@ -1,7 +1,7 @@
 /* Calls every function of include/geznauri.h as a C program does: with sound tables and, for each number of refusal, with a
-   damaged one. All tables are of the teaching warehouse, and all expected results are worked out by hand. Buffers stand in
-   memory that is filled with a pattern, and the whole of it is compared. Prints what differs; the status is 1 if anything
-   does. */
+   damaged one. Most tables are of the teaching warehouse, and their results are worked out by hand; quick pages are held against
+   pages besides. Buffers stand in memory that is filled with a pattern, and the whole of it is compared. Prints what differs; the
+   status is 1 if anything does. */
 #include "geznauri.h"
 #include <stdio.h>
 #include <string.h>
@@ -11,6 +11,9 @@ _Static_assert(sizeof(gz_image_reply) == 16 && offsetof(gz_image_reply, number) 
 _Static_assert(offsetof(gz_image_reply, count) == 8, "gz_image_reply");
 _Static_assert(sizeof(gz_page_reply) == 24 && offsetof(gz_page_reply, number) == 0 && offsetof(gz_page_reply, place) == 2, "gz_page_reply");
 _Static_assert(offsetof(gz_page_reply, count) == 8 && offsetof(gz_page_reply, more) == 16, "gz_page_reply");
+_Static_assert(sizeof(gz_quick_reply) == 32 && offsetof(gz_quick_reply, number) == 0 && offsetof(gz_quick_reply, place) == 2, "gz_quick_reply");
+_Static_assert(offsetof(gz_quick_reply, count) == 8 && offsetof(gz_quick_reply, more) == 16, "gz_quick_reply");
+_Static_assert(offsetof(gz_quick_reply, evaluations) == 24, "gz_quick_reply");
 _Static_assert(sizeof(gz_read_reply) == 24 && offsetof(gz_read_reply, number) == 0 && offsetof(gz_read_reply, place) == 2, "gz_read_reply");
 _Static_assert(offsetof(gz_read_reply, count) == 8 && offsetof(gz_read_reply, columns) == 16, "gz_read_reply");
 _Static_assert(sizeof(gz_index_reply) == 24 && offsetof(gz_index_reply, number) == 0 && offsetof(gz_index_reply, place) == 2, "gz_index_reply");
@@ -18,8 +21,8 @@ _Static_assert(offsetof(gz_index_reply, next) == 8 && offsetof(gz_index_reply, t
 _Static_assert(sizeof(gz_cursor) == 8 && offsetof(gz_cursor, begun) == 0 && offsetof(gz_cursor, last) == 2, "gz_cursor");
 _Static_assert(sizeof(gz_part) == 16 && offsetof(gz_part, start) == 0 && offsetof(gz_part, length) == 8, "gz_part");
 _Static_assert(sizeof(bool) == 1 && sizeof(size_t) == 8, "bool and size_t");
-#if GZ_VERSION_MAJOR != 3 || GZ_VERSION_MINOR < 1
-#error "this program is written to version 3.1 of the header"
+#if GZ_VERSION_MAJOR != 3 || GZ_VERSION_MINOR < 2
+#error "this program is written to version 3.2 of the header"
 #endif
 
 #define PATTERN 0xA5
@@ -513,9 +516,24 @@ static void both_forms(void)
 
 /* Pages. The cursor is moved on from call to call. */
 
-static void page(const char *what, struct lent l, gz_cursor *cursor, size_t room, gz_page_reply reply, const uint16_t *rows,
-                 size_t rows_len, gz_cursor after)
+/* A page call, or a quick one; of the former, evaluations is 0. */
+static gz_quick_reply paged(bool quickly, struct lent l, gz_cursor *cursor, uint16_t *rows, size_t room)
 {
+    if (quickly)
+        return gz_quick_page(l.tree, l.tree_len, l.query, l.query_len, l.columns, cursor, rows, room);
+    gz_page_reply r = gz_page(l.tree, l.tree_len, l.query, l.query_len, l.columns, cursor, rows, room);
+    return (gz_quick_reply){r.number, r.place, r.count, r.more, 0};
+}
+
+static bool same_cursor(gz_cursor a, gz_cursor b)
+{
+    return a.begun == b.begun && memcmp(a.last, b.last, sizeof a.last) == 0;
+}
+
+static void paging(bool quickly, const char *what, struct lent l, gz_cursor *cursor, size_t room, gz_quick_reply reply,
+                   const uint16_t *rows, size_t rows_len, gz_cursor after)
+{
+    const char *function = quickly ? "gz_quick_page" : "gz_page";
     struct {
         uint64_t before;
         gz_cursor cursor;
@@ -526,13 +544,21 @@ static void page(const char *what, struct lent l, gz_cursor *cursor, size_t room
     memset(wanted, PATTERN, sizeof wanted);
     if (rows_len != 0)
         memcpy(wanted + MARGIN, rows, rows_len * sizeof *rows);
-    gz_page_reply r = gz_page(l.tree, l.tree_len, l.query, l.query_len, l.columns, &lent_cursor.cursor, memory + MARGIN, room);
+    gz_quick_reply r = paged(quickly, l, &lent_cursor.cursor, memory + MARGIN, room);
     *cursor = lent_cursor.cursor;
-    expect(r.number == reply.number && r.place == reply.place, "gz_page", what, "reply");
-    expect(r.count == reply.count && r.more == reply.more, "gz_page", what, "count or more");
-    expect(memcmp(memory, wanted, sizeof memory) == 0, "gz_page", what, "buffer");
-    expect(cursor->begun == after.begun && memcmp(cursor->last, after.last, sizeof after.last) == 0, "gz_page", what, "cursor");
-    expect(lent_cursor.before == PATTERN && lent_cursor.behind == PATTERN, "gz_page", what, "memory beside the cursor");
+    expect(r.number == reply.number && r.place == reply.place, function, what, "reply");
+    expect(r.count == reply.count && r.more == reply.more, function, what, "count or more");
+    expect(r.evaluations == reply.evaluations, function, what, "evaluations");
+    expect(memcmp(memory, wanted, sizeof memory) == 0, function, what, "buffer");
+    expect(same_cursor(*cursor, after), function, what, "cursor");
+    expect(lent_cursor.before == PATTERN && lent_cursor.behind == PATTERN, function, what, "memory beside the cursor");
+}
+
+static void page(const char *what, struct lent l, gz_cursor *cursor, size_t room, gz_page_reply reply, const uint16_t *rows,
+                 size_t rows_len, gz_cursor after)
+{
+    gz_quick_reply uncounted = {reply.number, reply.place, reply.count, reply.more, 0};
+    paging(false, what, l, cursor, room, uncounted, rows, rows_len, after);
 }
 #define ACCEPTED(count, more) (gz_page_reply){0, 0, count, more}
 #define REFUSED(number, place) (gz_page_reply){number, place, 0, false}
@@ -598,6 +624,293 @@ static void pages(void)
     cursor = AT(1, 2, 4);
     struct lent three = LENT(SLICE(pallets), 3, NOTHING);
     page("three variables", three, &cursor, 8, ACCEPTED(2, true), NUMBERS(1, 2, 5, 1, 3, 0), AT(1, 3, 0));
+}
+
+/* Quick pages. */
+
+static void quick(const char *what, struct lent l, gz_cursor *cursor, size_t room, gz_quick_reply reply, const uint16_t *rows,
+                  size_t rows_len, gz_cursor after)
+{
+    paging(true, what, l, cursor, room, reply, rows, rows_len, after);
+}
+#define COUNTED(count, more, evaluations) (gz_quick_reply){0, 0, count, more, evaluations}
+#define UNCOUNTED(number, place) (gz_quick_reply){number, place, 0, false, 0}
+
+/* The bays and pallets: the calls that docs/REFERENCE.md works out, with refused calls between them, and other cursors. */
+static void quick_pages(void)
+{
+    struct lent bays = LENT(SLICE(pallets), 2, NOTHING);
+    gz_cursor cursor = CURSOR(0, 7, 8, 900);
+    quick("rows 1 and 2", bays, &cursor, 5, COUNTED(2, true, 18), NUMBERS(1, 2, 1, 3), AT(1, 3, 900));
+    quick("no variables", LENT(SLICE(pallets), 0, NOTHING), &cursor, 5, UNCOUNTED(9, 0), NOTHING, AT(1, 3, 900));
+    quick("room for no row", bays, &cursor, 1, UNCOUNTED(20, 0), NOTHING, AT(1, 3, 900));
+    quick("another tree, refused", ON(NUMBERS(65535, 65535), SLICE(pallets), 2, NOTHING), &cursor, 5, UNCOUNTED(7, 0), NOTHING,
+          AT(1, 3, 900));
+    quick("another query, refused", LENT(NUMBERS(6, 0, 0, 0, 12, 0, 0, 0, 5, 0, 1, 0), 2, NOTHING), &cursor, 5, UNCOUNTED(29, 2), NOTHING,
+          AT(1, 3, 900));
+    quick("row 3", bays, &cursor, 5, COUNTED(1, false, 12), NUMBERS(4, 5), AT(4, 5, 900));
+    quick("no more rows", bays, &cursor, 4, COUNTED(0, false, 1), NOTHING, AT(4, 5, 900));
+    cursor = AT(1, 4, 900);
+    quick("after (1, 4), no answer", bays, &cursor, 4, COUNTED(1, false, 11), NUMBERS(4, 5), AT(4, 5, 900));
+    cursor = AT(0, 0, 0);
+    quick("after (0, 0)", bays, &cursor, 64, COUNTED(3, false, 22), NUMBERS(1, 2, 1, 3, 4, 5), AT(4, 5, 0));
+    cursor = (gz_cursor){0};
+    quick("all at once", bays, &cursor, 64, COUNTED(3, false, 19), NUMBERS(1, 2, 1, 3, 4, 5), AT(4, 5, 0));
+    cursor = AT(1, 6, 0);
+    quick("a cursor at node 6", bays, &cursor, 4, UNCOUNTED(17, 1), NOTHING, AT(1, 6, 0));
+    cursor = AT(6, 6, 0);
+    quick("a cursor at nodes 6 and 6", bays, &cursor, 0, UNCOUNTED(17, 0), NOTHING, AT(6, 6, 0));
+    quick("no tree", ON(NOTHING, SLICE(pallets), 2, NOTHING), &cursor, 4, UNCOUNTED(5, 0), NOTHING, AT(6, 6, 0));
+    quick("a bad parent", ON(NUMBERS(65535, 1, 1, 2), SLICE(pallets), 2, NOTHING), &cursor, 4, UNCOUNTED(6, 1), NOTHING, AT(6, 6, 0));
+    quick("half an entry", ON(SLICE(warehouse), pallets, 26, 2, NOTHING), &cursor, 4, UNCOUNTED(8, 0), NOTHING, AT(6, 6, 0));
+    quick("4 variables", LENT(SLICE(pallets), 4, NOTHING), &cursor, 8, UNCOUNTED(9, 0), NOTHING, AT(6, 6, 0));
+    quick("an unknown variable", LENT(SLICE(pallets), 1, NOTHING), &cursor, 8, UNCOUNTED(11, 4), NOTHING, AT(6, 6, 0));
+    for (uint16_t byte = 1; byte < 256; byte++) {
+        cursor = CURSOR((uint8_t)byte, 1, 3, 900);
+        quick("begun, room for no row", bays, &cursor, 1, UNCOUNTED(20, 0), NOTHING, CURSOR((uint8_t)byte, 1, 3, 900));
+        quick("begun, the last row", bays, &cursor, 4, COUNTED(1, false, 12), NUMBERS(4, 5), AT(4, 5, 900));
+        cursor = CURSOR((uint8_t)byte, 4, 5, 900);
+        quick("begun, no more rows", bays, &cursor, 4, COUNTED(0, false, 1), NOTHING, CURSOR((uint8_t)byte, 4, 5, 900));
+    }
+    cursor = CURSOR(0, 900, 900, 900);
+    quick("fresh, no row", LENT(NUMBERS(0, 0, 0, 9), 2, NOTHING), &cursor, 4, COUNTED(0, false, 1), NOTHING, CURSOR(0, 900, 900, 900));
+
+    /* calls of both sorts over one cursor, one row a call, and a page that takes what a quick page refuses */
+    struct lent squared = LENT(NUMBERS(0, 5, 0, 2, 12, 0, 0, 0, 5, 0, 1, 0, 0, 1, 0, 3, 12, 0, 0, 0, 5, 3, 4, 0, 1, 2, 5, 0), 2, NOTHING);
+    cursor = (gz_cursor){0};
+    page("row 1", bays, &cursor, 2, ACCEPTED(1, true), NUMBERS(1, 2), AT(1, 2, 0));
+    quick("row 2", bays, &cursor, 2, COUNTED(1, true, 12), NUMBERS(1, 3), AT(1, 3, 0));
+    quick("refused between", squared, &cursor, 2, UNCOUNTED(29, 6), NOTHING, AT(1, 3, 0));
+    gz_cursor beyond = AT(6, 6, 0);
+    quick("refused before cursor and room", squared, &beyond, 0, UNCOUNTED(29, 6), NOTHING, AT(6, 6, 0));
+    page("row 3", bays, &cursor, 2, ACCEPTED(1, false), NUMBERS(4, 5), AT(4, 5, 0));
+    quick("no more rows", bays, &cursor, 2, COUNTED(0, false, 1), NOTHING, AT(4, 5, 0));
+    cursor = (gz_cursor){0};
+    quick("row 1", bays, &cursor, 2, COUNTED(1, true, 7), NUMBERS(1, 2), AT(1, 2, 0));
+    page("rows 2 and 3", bays, &cursor, 4, ACCEPTED(2, false), NUMBERS(1, 3, 4, 5), AT(4, 5, 0));
+    cursor = (gz_cursor){0};
+    page("no node is its own child", squared, &cursor, 4, ACCEPTED(0, false), NOTHING, (gz_cursor){0});
+
+    /* a document node is among those that a variable stands for: $0[not(..)] */
+    cursor = (gz_cursor){0};
+    struct lent top = ON(SLICE(document), NUMBERS(6, 0, 0, 0, 0, 2, 0, 65534, 8, 1, 0, 0, 9, 2, 0, 0, 5, 0, 3, 0), 1, NOTHING);
+    quick("the document node", top, &cursor, 4, COUNTED(1, false, 8), NUMBERS(0), AT(0, 0, 0));
+    cursor = (gz_cursor){0};
+    quick("a document node alone", ON(NUMBERS(65535, 65534), NUMBERS(6, 0, 0, 0), 3, NOTHING), &cursor, 3, COUNTED(1, false, 4),
+          NUMBERS(0, 0, 0), AT(0, 0, 0));
+
+    /* as many entries as a query may have, and one more: $0, and 63 or 64 times 'from the root' */
+    uint16_t nested[4 * 65] = {6};
+    for (uint16_t e = 1; e < 65; e++)
+        nested[4 * e] = 7, nested[4 * e + 1] = e - 1;
+    cursor = (gz_cursor){0};
+    quick("64 entries", LENT(nested, 256, 1, NOTHING), &cursor, 6, COUNTED(6, false, 7), NUMBERS(0, 1, 2, 3, 4, 5), AT(5, 0, 0));
+    quick("65 entries", LENT(nested, 260, 1, NOTHING), &cursor, 6, UNCOUNTED(8, 0), NOTHING, AT(5, 0, 0));
+}
+
+/* A query that breaks the rule at an entry, whatever cursor and room it is lent. With 'some' over it, it is refused with 15 instead.
+   gz_page takes it. */
+static void breaks(const char *what, const uint16_t *query, size_t length, uint16_t columns, uint16_t place)
+{
+    static const gz_cursor cursors[] = {{0, {0, 0, 0}}, {1, {1, 2, 3}}, {1, {6, 0, 0}}, {9, {0, 0, 65535}}};
+    for (size_t i = 0; i < LENGTH(cursors); i++)
+        for (size_t room = 0; room < 64; room += 9) {
+            gz_cursor cursor = cursors[i];
+            quick(what, LENT(query, length, columns, NOTHING), &cursor, room, UNCOUNTED(29, place), NOTHING, cursors[i]);
+        }
+    uint16_t longer[256] = {0}, rows[3], last = (uint16_t)(length / 4);
+    memcpy(longer, query, length * sizeof *query);
+    longer[length] = 8, longer[length + 1] = last - 1;
+    gz_cursor cursor = {0};
+    quick(what, LENT(longer, length + 4, columns, NOTHING), &cursor, 3, UNCOUNTED(15, last), NOTHING, (gz_cursor){0});
+    expect(gz_page(SLICE(warehouse), query, length, columns, &cursor, rows, 3).number == 0, "gz_page", what, "reply");
+}
+
+/* Each kind that can break the rule, by each variable, in either operand; below other entries; the lowest of several. */
+static void broken_rules(void)
+{
+    for (uint16_t v = 0; v < 3; v++) {
+        uint16_t other = (v + 1) % 3;
+        breaks("compose", NUMBERS(6, v, 0, 0, 6, v, 0, 0, 1, 0, 1, 0), 3, 2);
+        breaks("filter", NUMBERS(6, v, 0, 0, 12, v, 0, 0, 5, 0, 1, 0), 3, 2);
+        breaks("and", NUMBERS(0, 0, 0, 2, 12, v, 0, 0, 12, v, 0, 0, 10, 1, 2, 0, 5, 0, 3, 0), 3, 3);
+        breaks("intersect, left", NUMBERS(6, v, 0, 0, 0, 0, 0, 2, 3, 0, 1, 0), 3, 2);
+        breaks("intersect, right", NUMBERS(0, 0, 0, 2, 6, v, 0, 0, 3, 0, 1, 0), 3, 2);
+        breaks("except, left", NUMBERS(6, v, 0, 0, 0, 0, 0, 2, 4, 0, 1, 0), 3, 2);
+        breaks("except, right", NUMBERS(0, 0, 0, 2, 6, v, 0, 0, 4, 0, 1, 0), 3, 2);
+        breaks("not", NUMBERS(0, 0, 0, 2, 12, v, 0, 0, 9, 1, 0, 0, 5, 0, 2, 0), 3, 2);
+        breaks("not, of a path", NUMBERS(0, 0, 0, 2, 6, v, 0, 0, 8, 1, 0, 0, 9, 2, 0, 0, 5, 0, 3, 0), 3, 3);
+        /* ($v/$w)/(self::2 union /$v): not right below the compose */
+        breaks("compose, deep",
+               NUMBERS(6, v, 0, 0, 6, other, 0, 0, 1, 0, 1, 0, 0, 0, 0, 2, 6, v, 0, 0, 7, 4, 0, 0, 2, 3, 5, 0, 1, 2, 6, 0), 3, 7);
+        /* self::2[. is $v or . is $w]/.[$v]: the filters have $v on one side alone, the compose on both */
+        breaks("compose of filters",
+               NUMBERS(0, 0, 0, 2, 12, v, 0, 0, 12, other, 0, 0, 11, 1, 2, 0, 5, 0, 3, 0, 0, 0, 0, 65534, 6, v, 0, 0, 8, 6, 0, 0,
+                       5, 5, 7, 0, 1, 4, 8, 0), 3, 9);
+        /* $v/$v intersect $w: the compose breaks it, and so does the intersect above it */
+        breaks("two of them", NUMBERS(6, v, 0, 0, 6, v, 0, 0, 1, 0, 1, 0, 6, other, 0, 0, 3, 2, 3, 0), 3, 2);
+        /* the same with the operand that breaks it behind the other */
+        breaks("two of them, the other way", NUMBERS(6, other, 0, 0, 6, v, 0, 0, 6, v, 0, 0, 1, 1, 2, 0, 3, 0, 3, 0), 3, 3);
+    }
+    breaks("two variables under an except", NUMBERS(6, 0, 0, 0, 6, 1, 0, 0, 4, 0, 1, 0), 2, 2);
+
+    /* 15 before 29 where both are told of one entry, and 29 before 17 and 20, which are told of a query that keeps the rule */
+    gz_cursor cursor = AT(6, 6, 6);
+    quick("a node expression", LENT(NUMBERS(12, 0, 0, 0, 12, 0, 0, 0, 10, 0, 1, 0), 1, NOTHING), &cursor, 0, UNCOUNTED(15, 2), NOTHING,
+          AT(6, 6, 6));
+    quick("a rule that is kept", LENT(NUMBERS(6, 0, 0, 0, 12, 1, 0, 0, 5, 0, 1, 0), 2, NOTHING), &cursor, 0, UNCOUNTED(17, 0), NOTHING,
+          AT(6, 6, 6));
+    cursor = AT(5, 5, 6);
+    quick("a rule that is kept", LENT(NUMBERS(6, 0, 0, 0, 12, 1, 0, 0, 5, 0, 1, 0), 2, NOTHING), &cursor, 1, UNCOUNTED(20, 0), NOTHING,
+          AT(5, 5, 6));
+}
+
+/* How many evaluations it takes to find the row `to` after the row `from`, or that there is none; the first of all rows, or that there
+   is none. Where there is no such row, it is NULL. */
+static size_t sought(size_t n, size_t k, const uint16_t *from, const uint16_t *to)
+{
+    size_t j = 0, evaluations = 0;
+    if (from == NULL) {
+        for (size_t i = 0; to != NULL && i < k; i++)
+            evaluations += to[i] + 1u;
+        return evaluations + 1;
+    }
+    while (to != NULL && from[j] == to[j])
+        j++;
+    for (size_t i = j; i < k; i++)
+        evaluations += to == NULL ? n - 1 - from[i] : i == j ? (size_t)(to[i] - from[i]) : n - 1 - from[i] + to[i] + 1;
+    return evaluations;
+}
+
+/* Every answer of a query, by gz_page, and how many there are. */
+#define MOST_ROWS 343
+static uint16_t every_row[3 * MOST_ROWS];
+
+static size_t every_answer(struct lent l)
+{
+    gz_cursor cursor = {0};
+    gz_page_reply r = gz_page(l.tree, l.tree_len, l.query, l.query_len, l.columns, &cursor, every_row, LENGTH(every_row));
+    return r.number == 0 && !r.more ? r.count : 0;
+}
+
+/* What a quick page leaves of a cursor is what a page leaves, with the evaluations that the rows take, and within the bound. */
+static void same_page(const char *what, struct lent l, size_t answers, gz_cursor lent_cursor, size_t room)
+{
+    static uint16_t plainly[MARGIN + 3 * MOST_ROWS + MARGIN], quickly[LENGTH(plainly)];
+    size_t n = l.tree_len / 2, k = l.columns, first = 0, evaluations = 0;
+    gz_cursor plain_cursor = lent_cursor, quick_cursor = lent_cursor;
+    const uint16_t *before = lent_cursor.begun ? lent_cursor.last : NULL;
+    memset(plainly, PATTERN, sizeof plainly);
+    memset(quickly, PATTERN, sizeof quickly);
+    gz_quick_reply p = paged(false, l, &plain_cursor, plainly + MARGIN, room), q = paged(true, l, &quick_cursor, quickly + MARGIN, room);
+    expect(p.number == q.number && p.place == q.place && p.count == q.count && p.more == q.more, "gz_quick_page", what, "reply");
+    expect(memcmp(plainly, quickly, sizeof quickly) == 0, "gz_quick_page", what, "buffer");
+    expect(same_cursor(plain_cursor, quick_cursor), "gz_quick_page", what, "cursor");
+    while (before != NULL && first < answers) {
+        size_t j = 0;
+        while (j < k && every_row[k * first + j] == before[j])
+            j++;
+        if (j < k && every_row[k * first + j] > before[j])
+            break;
+        first++;
+    }
+    for (size_t i = 0; i <= q.count; i++) {
+        const uint16_t *next = first + i < answers ? every_row + k * (first + i) : NULL;
+        evaluations += sought(n, k, before, next);
+        before = next;
+    }
+    expect(q.evaluations == evaluations && evaluations <= 6 * n * (q.count + 1), "gz_quick_page", what, "evaluations");
+}
+
+/* The same from every cursor, fresh and at each row, with room for one row, for two and a part of one, and for all. */
+static void same_pages(const char *what, struct lent l)
+{
+    size_t n = l.tree_len / 2, k = l.columns, answers = every_answer(l), rows = k == 1 ? n : k == 2 ? n * n : n * n * n;
+    size_t rooms[] = {k, 3 * k - 1, 3 * MOST_ROWS};
+    for (size_t i = 0; i < LENGTH(rooms); i++) {
+        same_page(what, l, answers, CURSOR(0, 900, 900, 900), rooms[i]);
+        for (size_t row = 0; row < rows; row++) {
+            gz_cursor cursor = AT(900, 900, 900);
+            for (size_t j = k, rest = row; j-- > 0; rest /= n)
+                cursor.last[j] = (uint16_t)(rest % n);
+            same_page(what, l, answers, cursor, rooms[i]);
+        }
+    }
+}
+
+/* As many nodes as a tree may have: a hall with 5 aisles (tag 2), each with 5 bays (3), each with 9 pallets (4); and its pallets, each
+   behind its aisle and its bay. */
+static uint16_t hall[512], hall_nodes, hall_rows[3 * 225];
+
+static uint16_t put(uint16_t parent, uint16_t tag)
+{
+    hall[2 * hall_nodes] = parent, hall[2 * hall_nodes + 1] = tag;
+    return hall_nodes++;
+}
+
+static void fill_hall(void)
+{
+    uint16_t *end = hall_rows;
+    put(65535, 1);
+    for (int i = 0; i < 5; i++) {
+        uint16_t aisle = put(0, 2);
+        for (int j = 0; j < 5; j++) {
+            uint16_t bay = put(aisle, 3);
+            for (int k = 0; k < 9; k++)
+                *end++ = aisle, *end++ = bay, *end++ = put(bay, 4);
+        }
+    }
+}
+
+/* Three variables over 256 nodes: child::2[. is $0]/child::3[. is $1]/child::4[. is $2], the pallets with their places, in pages of
+   some rows from a fresh cursor on; every page is followed by one that is refused. */
+static void places(size_t page_rows)
+{
+    static const uint16_t query[] = {0, 1, 0, 2, 12, 0, 0, 0, 5, 0, 1, 0, 0, 1, 0, 3, 12, 1, 0, 0, 5, 3, 4, 0, 1, 2, 5, 0,
+                                     0, 1, 0, 4, 12, 2, 0, 0, 5, 7, 8, 0, 1, 6, 9, 0};
+    const uint16_t *due = hall_rows;
+    uint16_t rows[3 * 256 + 2];
+    size_t given = 0;
+    struct lent l = ON(SLICE(hall), SLICE(query), 3, NOTHING);
+    gz_cursor cursor = {0};
+    for (bool more = true; more && given < 225; given += page_rows) {
+        size_t wanted = 225 - given < page_rows ? 225 - given : page_rows;
+        memset(rows, PATTERN, sizeof rows);
+        gz_quick_reply r = paged(true, l, &cursor, rows, 3 * page_rows + 2);
+        more = r.more;
+        expect(r.number == 0 && r.place == 0 && r.count == wanted && more == (given + wanted < 225), "gz_quick_page", "256 nodes", "reply");
+        expect(memcmp(rows, due + 3 * given, 3 * wanted * sizeof *rows) == 0, "gz_quick_page", "256 nodes", "rows");
+        expect(rows[3 * wanted] == 257 * PATTERN, "gz_quick_page", "256 nodes", "number behind the rows");
+        expect(cursor.begun == 1 && memcmp(cursor.last, due + 3 * (given + wanted - 1), sizeof cursor.last) == 0, "gz_quick_page", "256 nodes",
+               "cursor");
+        size_t evaluations = 0;
+        for (size_t i = given; i <= given + wanted; i++)
+            evaluations += sought(256, 3, i == 0 ? NULL : due + 3 * (i - 1), i < 225 ? due + 3 * i : NULL);
+        expect(r.evaluations == evaluations && evaluations <= 6 * 256 * (wanted + 1), "gz_quick_page", "256 nodes", "evaluations");
+        gz_cursor same = cursor;
+        quick("256 nodes, refused", ON(hall, 511, SLICE(query), 3, NOTHING), &same, 3, UNCOUNTED(5, 0), NOTHING, cursor);
+    }
+}
+
+/* The dearest searches there are: the only answer is the last row, (255, 255, 255), or there is none. */
+static void dear_searches(void)
+{
+    uint16_t flat[512] = {65535};
+    for (uint16_t tag = 0; tag < 2; tag++) {
+        flat[511] = tag;
+        struct lent l = ON(SLICE(flat), NUMBERS(0, 0, 0, 1, 12, 0, 0, 0, 5, 0, 1, 0, 0, 0, 0, 1, 12, 1, 0, 0, 5, 3, 4, 0, 1, 2, 5, 0,
+                                                0, 0, 0, 1, 12, 2, 0, 0, 5, 7, 8, 0, 1, 6, 9, 0), 3, NOTHING);
+        gz_cursor first = AT(0, 0, 0), before = AT(255, 255, 254), last = AT(255, 255, 255), fresh = {0}, cursor = first;
+        const uint16_t row[] = {255, 255, 255};
+        size_t numbers = tag ? 3 : 0;
+        quick("from the first row", l, &cursor, 6, COUNTED(tag, false, tag ? 1277 : 765), row, numbers, tag ? last : first);
+        cursor = before;
+        quick("from the row before the last", l, &cursor, 6, COUNTED(tag, false, 1), row, numbers, tag ? last : before);
+        cursor = last;
+        quick("from the last row", l, &cursor, 6, COUNTED(0, false, 0), NOTHING, last);
+        cursor = fresh;
+        quick("from a fresh cursor", l, &cursor, 6, COUNTED(tag, false, tag ? 769 : 1), row, numbers, tag ? last : fresh);
+    }
 }
 
 /* Names. */
@@ -1036,6 +1349,50 @@ static void typed_on_document(void)
     typed_image_on(SLICE(warehouse), f, "ancestor-or-self::*", "000001", "100011");
 }
 
+/* A typed query that keeps the rule of quick pages, or breaks it at an entry. Of one that keeps it, with as many variables as it has and
+   with more, quick pages are what pages are, on the warehouse and below a document node. The names are the tags themselves. */
+static void ruled(const char *text, uint16_t number, uint16_t place)
+{
+    uint16_t table[256];
+    gz_read_reply r = gz_read((const uint8_t *)text, strlen(text), TABLE("\0010\0011\0012\0013"), NOTHING, table, 256);
+    expect(r.number == 0 && r.columns > 0, "gz_read", text, "reply");
+    for (uint16_t columns = r.columns; columns <= 3; columns++)
+        if (number == 29) {
+            breaks(text, table, r.count, columns, place);
+        } else {
+            same_pages(text, LENT(table, r.count, columns, NOTHING));
+            same_pages(text, ON(SLICE(document), table, r.count, columns, NOTHING));
+        }
+}
+
+static void rules(void)
+{
+    /* the worked queries of docs/REFERENCE.md; tests/source/reference_examples.py compares the lines */
+    ruled("descendant::2[. is $0]/child::3[. is $1]", 0, 0);
+    ruled("$0 union child::2[. is $0]", 0, 0);
+    ruled("self::2[. is $0 or . is $0]", 0, 0);
+    ruled("(. except self::2)[. is $0]", 0, 0);
+    ruled(".[. is $0]/self::2[. is $0]", 29, 6);
+    ruled("$1[. is $1]", 29, 2);
+    ruled("self::2[. is $0 and . is $0]", 29, 3);
+    ruled("$0 intersect self::2", 29, 2);
+    ruled("self::2 except $0", 29, 2);
+    ruled("self::2[not(. is $0)]", 29, 2);
+
+    ruled("self::1 union child::2[. is $0]", 0, 0);
+    ruled("self::0[. is $0]", 0, 0);
+    ruled("child::2[. is $2]/child::3[. is $0]", 0, 0);
+    ruled(".[. is $0]/following::*[. is $1]/ancestor::node()[. is $2]", 0, 0);
+    ruled(".[. is $2]/ancestor-or-self::*[. is $1]/preceding::node()[. is $0]", 0, 0);
+    ruled(".[. is $1 and child::*[. is $0] and not(right::*)]", 0, 0);
+    ruled("$2[child::3]/child::*[. is $1][$0]", 0, 0);
+    ruled("$0/$1/$2", 0, 0);
+    ruled("$0 union $1/left::* union $2[not(..)]", 0, 0);
+    ruled("/$1//self::3[. is $0]", 0, 0);
+    ruled(".[/child::*[. is $0] or $1/child::3 or . is $1]", 0, 0);
+    ruled("(descendant::* intersect following::*/..)[. is $1] union $0/(descendant::* except child::*)", 0, 0);
+}
+
 static void typed(void)
 {
     const struct direction *f = &forwards, *b = &backwards;
@@ -1061,6 +1418,8 @@ static void typed(void)
     static const char pairs[] = "descendant::bay[. is $0]/child::pallet[. is $1]";
     gz_read_reply r = gz_read(TABLE(pairs), TABLE(house), TABLE(site), table, 256);
     page(pairs, LENT(table, r.count, r.columns, NOTHING), &cursor, 64, ACCEPTED(3, false), NUMBERS(1, 2, 1, 3, 4, 5), AT(4, 5, 0));
+    cursor = (gz_cursor){0};
+    quick(pairs, LENT(table, r.count, r.columns, NOTHING), &cursor, 64, COUNTED(3, false, 19), NUMBERS(1, 2, 1, 3, 4, 5), AT(4, 5, 0));
 }
 
 /* Indexes. Both buffers stand in memory that is filled with the pattern, and all of it is compared. */
@@ -1260,8 +1619,18 @@ int main(void)
     conversions();
     both_forms();
     pages();
+    quick_pages();
+    broken_rules();
+    fill_hall();
+    places(1);
+    places(9);
+    places(100);
+    places(225);
+    places(256);
+    dear_searches();
     names();
     typed();
+    rules();
     indexes();
     descendants();
     descendants_of_chain();

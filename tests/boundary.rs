@@ -29,6 +29,16 @@ struct PageReply {
 
 #[repr(C)]
 #[derive(Clone, Copy, Debug, PartialEq)]
+struct QuickReply {
+    number: u16,
+    place: u16,
+    count: usize,
+    more: bool,
+    evaluations: usize,
+}
+
+#[repr(C)]
+#[derive(Clone, Copy, Debug, PartialEq)]
 struct ReadReply {
     number: u16,
     place: u16,
@@ -62,6 +72,8 @@ struct Part {
 const _: () = assert!(size_of::<Reply>() == 4 && offset_of!(Reply, place) == 2);
 const _: () = assert!(size_of::<ImageReply>() == 16 && offset_of!(ImageReply, place) == 2 && offset_of!(ImageReply, count) == 8);
 const _: () = assert!(size_of::<PageReply>() == 24 && offset_of!(PageReply, count) == 8 && offset_of!(PageReply, more) == 16);
+const _: () = assert!(size_of::<QuickReply>() == 32 && offset_of!(QuickReply, count) == 8 && offset_of!(QuickReply, more) == 16);
+const _: () = assert!(offset_of!(QuickReply, place) == 2 && offset_of!(QuickReply, evaluations) == 24);
 const _: () = assert!(size_of::<ReadReply>() == 24 && offset_of!(ReadReply, count) == 8 && offset_of!(ReadReply, columns) == 16);
 const _: () = assert!(size_of::<IndexReply>() == 24 && offset_of!(IndexReply, next) == 8 && offset_of!(IndexReply, tags) == 16);
 const _: () = assert!(size_of::<Cursor>() == 8 && offset_of!(Cursor, last) == 2);
@@ -97,6 +109,10 @@ extern "C" {
         tree: *const u16, tree_len: usize, query: *const u16, query_len: usize, columns: u16, cursor: *mut Cursor,
         rows: *mut u16, rows_len: usize,
     ) -> PageReply;
+    fn gz_quick_page(
+        tree: *const u16, tree_len: usize, query: *const u16, query_len: usize, columns: u16, cursor: *mut Cursor,
+        rows: *mut u16, rows_len: usize,
+    ) -> QuickReply;
     fn gz_name(house: *const u8, house_len: usize, site: *const u8, site_len: usize, tag: u16, name: *mut Part) -> Reply;
     fn gz_read(
         text: *const u8, text_len: usize, house: *const u8, house_len: usize, site: *const u8, site_len: usize,
@@ -156,6 +172,11 @@ fn unpack(n: u16, words: &[u64], table: &mut [u8]) -> Reply {
 fn page(query: &[u16], columns: u16, cursor: &mut Cursor, rows: &mut [u16]) -> PageReply {
     let (t, q) = (&WAREHOUSE, query);
     unsafe { gz_page(t.as_ptr(), t.len(), q.as_ptr(), q.len(), columns, cursor, rows.as_mut_ptr(), rows.len()) }
+}
+
+fn quick_page(tree: &[u16], query: &[u16], columns: u16, cursor: &mut Cursor, rows: &mut [u16]) -> QuickReply {
+    let (t, q) = (tree, query);
+    unsafe { gz_quick_page(t.as_ptr(), t.len(), q.as_ptr(), q.len(), columns, cursor, rows.as_mut_ptr(), rows.len()) }
 }
 
 // The part borrows from the table that holds it.
@@ -293,6 +314,33 @@ fn main() {
         assert_eq!(page(&PALLETS, 2, &mut cursor, &mut rows), PageReply { number: 0, place: 0, count: 0, more: false });
         assert_eq!(cursor, Cursor { begun, last: [4, 5, 9] });
     }
+
+    // quick pages, with the evaluations that each took; a page between two of them; and what they refuse
+    let counted = |count, more, evaluations| QuickReply { number: 0, place: 0, count, more, evaluations };
+    let uncounted = |number, place| QuickReply { number, place, count: 0, more: false, evaluations: 0 };
+    let mut cursor = Cursor { begun: 0, last: [0, 0, 9] };
+    let mut rows = [7; 5];
+    assert_eq!(quick_page(&WAREHOUSE, &PALLETS, 2, &mut cursor, &mut rows), counted(2, true, 18));
+    assert_eq!((rows, cursor), ([1, 2, 1, 3, 7], Cursor { begun: 1, last: [1, 3, 9] }));
+    assert_eq!(quick_page(&WAREHOUSE, &PALLETS, 2, &mut cursor, &mut rows), counted(1, false, 12));
+    assert_eq!((rows, cursor), ([4, 5, 1, 3, 7], Cursor { begun: 1, last: [4, 5, 9] }));
+    assert_eq!(quick_page(&WAREHOUSE, &PALLETS, 2, &mut cursor, &mut rows), counted(0, false, 1));
+    assert_eq!((rows, cursor), ([4, 5, 1, 3, 7], Cursor { begun: 1, last: [4, 5, 9] }));
+
+    let mut cursor = Cursor { begun: 0, last: [0, 0, 9] };
+    assert_eq!(quick_page(&WAREHOUSE, &PALLETS, 2, &mut cursor, &mut rows[..2]), counted(1, true, 7));
+    assert_eq!(page(&PALLETS, 2, &mut cursor, &mut rows[..2]), PageReply { number: 0, place: 0, count: 1, more: true });
+    assert_eq!((&rows[..2], cursor), (&[1, 3][..], Cursor { begun: 1, last: [1, 3, 9] }));
+    let shared = [6, 0, 0, 0, 12, 0, 0, 0, 5, 0, 1, 0];
+    assert_eq!(quick_page(&WAREHOUSE, &shared, 1, &mut cursor, &mut []), uncounted(29, 2));
+    assert_eq!(quick_page(&WAREHOUSE, &[12, 0, 0, 0, 12, 0, 0, 0, 10, 0, 1, 0], 1, &mut cursor, &mut []), uncounted(15, 2));
+    assert_eq!(quick_page(&WAREHOUSE[..11], &shared, 1, &mut cursor, &mut rows), uncounted(5, 0));
+    assert_eq!(quick_page(&WAREHOUSE, &PALLETS, 0, &mut cursor, &mut rows), uncounted(9, 0));
+    assert_eq!(quick_page(&WAREHOUSE, &PALLETS, 3, &mut cursor, &mut rows), uncounted(17, 2));
+    assert_eq!(quick_page(&WAREHOUSE, &PALLETS, 2, &mut cursor, &mut rows[..1]), uncounted(20, 0));
+    assert_eq!((&rows[..2], cursor), (&[1, 3][..], Cursor { begun: 1, last: [1, 3, 9] }));
+    assert_eq!(quick_page(&WAREHOUSE, &PALLETS, 2, &mut cursor, &mut rows), counted(1, false, 12));
+    assert_eq!((&rows[..2], cursor), (&[4, 5][..], Cursor { begun: 1, last: [4, 5, 9] }));
 
     let (house, site): (&[u8], &[u8]) = (b"\x05store\x04hall\x03bay", b"\x06pallet");
     assert_eq!(name(house, site, 1), (ACCEPTED, &b"hall"[..]));

@@ -1,9 +1,10 @@
 /* The stack that a call takes is as include/geznauri.h has it: less than 1 KiB for a check and a name, less than 4 KiB where a typed
    query is read, an index is made or followed, or a relation turned from bytes to bits or back, less than 8 KiB for a query of one
-   level, and less than 4 KiB for each further level of nesting. Pairs in bits take so little for every query that stack and table
-   together are smaller than a table of bytes. Calls run on a stack that was filled with a pattern; how much of the pattern is gone,
-   less what a thread takes that calls nothing, is what the call took. The tree of queries has one node: frames are of one size for all
-   trees; for pairs in bits it has 256, as has what is turned. */
+   level, and less than 4 KiB for each further level of nesting; a quick page takes less than 12 KiB for one level, and 4 KiB for each
+   further one. Pairs in bits take so little for every query that stack and table together are smaller than a table of bytes. Calls run
+   on a stack that was filled with a pattern; how much of the pattern is gone, less what a thread takes that calls nothing, is what the
+   call took. The tree of queries has one node, and of quick pages two: frames are of one size for all trees; for pairs in bits it has
+   256, as has what is turned. */
 #define _GNU_SOURCE
 #include "geznauri.h"
 #include <pthread.h>
@@ -56,6 +57,18 @@ static void *evaluations(void *unused)
     accepted(gz_backwards(tree, 2, query, 4 * entries, 1, nodes, 1, from, 1, to, 1).number);
     accepted(gz_pairs(tree, 2, query, 4 * entries, 1, nodes, 1, to, 1).number);
     accepted(gz_page(tree, 2, query, 4 * entries, 1, &cursor, rows, 1).number);
+    return unused;
+}
+
+/* A quick page of three variables. With two nodes, and room for the eight rows that there can be, each variable is filled and then sought
+   again, while those behind it stand for any node. */
+static const uint16_t two[] = {65535, 1, 0, 1};
+
+static void *quick(void *unused)
+{
+    static uint16_t rows[24];
+    gz_cursor cursor = {0};
+    accepted(gz_quick_page(two, 4, query, 4 * entries, 3, &cursor, rows, 24).number);
     return unused;
 }
 
@@ -140,12 +153,26 @@ static size_t levels(size_t e)
     return 1 + (a < b ? b : a);
 }
 
+/* A quick page makes a table in which a variable that stands for any node has one level more. */
+static size_t most_quick;
+
+static void quick_at_most(const char *what, size_t expected)
+{
+    size_t took = taken(quick) - taken(nothing);
+    printf("%s, %zu levels: %zu bytes for a quick page\n", what, expected, took);
+    if (took > most_quick)
+        most_quick = took;
+    if (levels(entries - 1) != expected || took >= (expected + 2) * 4096)
+        wrong = 1;
+}
+
 static void at_most(const char *what, size_t expected)
 {
     size_t took = taken(evaluations) - taken(nothing), checked = taken(checks) - taken(nothing);
     printf("%s, %zu levels: %zu bytes, and %zu for the checks\n", what, expected, took, checked);
     if (levels(entries - 1) != expected || took >= (expected + 1) * 4096 || checked >= 1024)
         wrong = 1;
+    quick_at_most(what, expected);
 }
 
 /* The most that pairs in bits took. With the caller's table, which is lent, it stays below the table of bytes. */
@@ -339,6 +366,54 @@ static void shapes_in_bits(void)
     printf("in bits at most %zu bytes\n", most_bits);
 }
 
+/* Quick pages of the deepest queries that have the last variable at their end, as a path and as `. is` it: from the root, in filters in
+   filters, and on either side of what may have a variable below it. */
+static void shapes_with_variables(void)
+{
+    entries = 0;
+    entry(6, 2, 0, 0);
+    quick_at_most("a variable", 1);
+    for (uint16_t e = 1; e < 64; e++)
+        entry(7, e - 1, 0, 0);
+    quick_at_most("a variable, from the root", 64);
+    entries = 0;
+    entry(12, 2, 0, 0);
+    entry(0, 0, 0, 65535);
+    entry(5, 1, 0, 0);
+    for (uint16_t e = 3; e + 3 <= 64; e += 3) {
+        entry(8, e - 1, 0, 0);
+        entry(0, 0, 0, 65535);
+        entry(5, e + 1, e, 0);
+    }
+    quick_at_most("is, in filters in filters", 42);
+    for (uint16_t kind = 1; kind <= 2; kind++)
+        for (int side = 0; side < 2; side++) {
+            entries = 0;
+            entry(6, 2, 0, 0);
+            for (uint16_t e = 1; e + 2 <= 64; e += 2) {
+                entry(0, 0, 0, 65535);
+                entry(kind, side ? e : e - 1, side ? e - 1 : e, 0);
+            }
+            quick_at_most("a variable, in paths of two operands", 32);
+        }
+    for (uint16_t kind = 10; kind <= 11; kind++)
+        for (int side = 0; side < 2; side++) {
+            entries = 0;
+            entry(12, 2, 0, 0);
+            entry(12, 1, 0, 0);
+            entry(kind, 0, 1, 0);
+            for (uint16_t e = 3; e + 5 <= 64; e += 3) {
+                entry(0, 0, 0, 65535);
+                entry(8, e, 0, 0);
+                entry(kind, side ? e + 1 : e - 1, side ? e - 1 : e + 1, 0);
+            }
+            entry(0, 0, 0, 65535);
+            entry(5, (uint16_t)(entries - 1), (uint16_t)(entries - 2), 0);
+            quick_at_most("is, in and or or", 22);
+        }
+    printf("quick pages at most %zu bytes\n", most_quick);
+}
+
 int main(void)
 {
     nested("", 0, ".", "", 0);
@@ -411,5 +486,6 @@ int main(void)
             }
             at_most("paths of two operands", 32);
         }
+    shapes_with_variables();
     return wrong;
 }

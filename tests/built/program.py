@@ -51,9 +51,18 @@ def entry(e, *fields):
     return changed(QUERY, 4 * e, *fields)
 
 
+def steps(*some):
+    """axis::test[. is $k]/axis::test[. is $k].., of the axis, the test and the k of each step."""
+    table = []
+    for axis, test, k in some:
+        at = len(table) // 4
+        table += [0, axis, 0, test, 12, k, 0, 0, 5, at, at + 1, 0] + [1, at - 1, at + 2, 0] * (at > 0)
+    return table
+
+
 def upwards(axis, test):
     """.[. is $0]/axis::test[. is $1]"""
-    return [0, 0, 0, 65534, 12, 0, 0, 0, 5, 0, 1, 0, 0, axis, 0, test, 12, 1, 0, 0, 5, 3, 4, 0, 1, 2, 5, 0]
+    return steps((0, 65534, 0), (axis, test, 1))
 
 
 TREE, QUERY, _ = make.JOBS["warehouse"]
@@ -173,7 +182,7 @@ TESTS = [
 # Answers of more than one page, and of whole pages: every row, those whose last variable is the one node with the tag 9, or
 # those of self::*[. is $0]/ancestor::*[. is $1].
 NINE = [65535, 9] + [n for k in range(31) for n in (0, 1)]
-ABOVE = [0, 0, 0, 65535, 12, 0, 0, 0, 5, 0, 1, 0, 0, 6, 0, 65535, 12, 1, 0, 0, 5, 3, 4, 0, 1, 2, 5, 0]
+ABOVE = steps((0, 65535, 0), (6, 65535, 1))
 LONG = [
     ("two variables, 256 nodes", CHAIN[:-2], STAR, 2, itertools.product(range(256), repeat=2)),
     ("three variables, 40 nodes", CHAIN[:80], STAR, 3, itertools.product(range(40), repeat=3)),
@@ -183,6 +192,31 @@ LONG = [
     ("one node", [65535, 1], STAR, 3, [(0, 0, 0)]),
     ("no row", TREE, [0, 0, 0, 9], 2, []),
 ]
+
+# Three variables over 7 nodes, by the separate evaluator: queries that keep the rule of quick pages, and then queries that break it.
+THREE = [
+    ("child::2[. is $0]/child::3[. is $1]/..[. is $2]", True, steps((1, 2, 0), (1, 3, 1), (2, 65534, 2))),
+    (".[. is $2]/following::*[. is $0]/ancestor::node()[. is $1]", True, steps((0, 65534, 2), (7, 65535, 0), (6, 65534, 1))),
+    ("child::2[. is $1] union $0/child::3[. is $2]", True,
+     [0, 1, 0, 2, 12, 1, 0, 0, 5, 0, 1, 0, 6, 0, 0, 0, 0, 1, 0, 3, 12, 2, 0, 0, 5, 4, 5, 0, 1, 3, 6, 0, 2, 2, 7, 0]),
+    (".[. is $0 or . is $1]/child::*[. is $2]", True,
+     [0, 0, 0, 65534, 12, 0, 0, 0, 12, 1, 0, 0, 11, 1, 2, 0, 5, 0, 3, 0, 0, 1, 0, 65535, 12, 2, 0, 0, 5, 5, 6, 0, 1, 4, 7, 0]),
+    ("(descendant::* except child::2)[. is $1]/$0[. is $2]", True,
+     [0, 5, 0, 65535, 0, 1, 0, 2, 4, 0, 1, 0, 12, 1, 0, 0, 5, 2, 3, 0, 6, 0, 0, 0, 12, 2, 0, 0, 5, 5, 6, 0, 1, 4, 7, 0]),
+    ("child::*[. is $0]/child::*[. is $1]/..[. is $0]", False, steps((1, 65535, 0), (1, 65535, 1), (2, 65534, 0))),
+    (".[. is $0]/child::*[. is $1 and not(. is $2)]", False,
+     [0, 0, 0, 65534, 12, 0, 0, 0, 5, 0, 1, 0, 0, 1, 0, 65535, 12, 1, 0, 0, 12, 2, 0, 0, 9, 5, 0, 0, 10, 4, 6, 0, 5, 3, 7, 0, 1, 2, 8, 0]),
+    ("(descendant::2 except $2)[. is $0]/child::3[. is $1]", False,
+     [0, 5, 0, 2, 6, 2, 0, 0, 4, 0, 1, 0, 12, 0, 0, 0, 5, 2, 3, 0, 0, 1, 0, 3, 12, 1, 0, 0, 5, 5, 6, 0, 1, 4, 7, 0]),
+    ("$0[. is $1]/..[. is $0 or . is $2]", False,
+     [6, 0, 0, 0, 12, 1, 0, 0, 5, 0, 1, 0, 0, 2, 0, 65534, 12, 0, 0, 0, 12, 2, 0, 0, 11, 4, 5, 0, 5, 3, 6, 0, 1, 2, 7, 0]),
+]
+
+# As many nodes as a tree may have, in five aisles of five bays of nine pallets. The query keeps the rule of quick pages; where it did
+# not, 16,777,216 rows would be tried, and the program would be silent for half a minute.
+PLACES = make.table((make.HALL,) + 5 * (make.aisle(*5 * ["p" * 9]),))
+PALLETS = [y for y in range(256) if PLACES[2 * y + 1] == make.PALLET]
+LONG.append(("three variables, 256 nodes", PLACES, make.PLACES, 3, [(PLACES[2 * PLACES[2 * y]], PLACES[2 * y], y) for y in PALLETS]))
 
 
 def random_tree(source):
@@ -250,11 +284,14 @@ def random_file(source, tree, query, columns):
     return file(body, at[0], len(tree), at[1], len(query), columns)
 
 
-def random_list(source):
-    """A tree, a query, its number of variables and its answers; made anew, up to eleven times, while they have no gaps."""
+def random_list(source, keeps):
+    """A tree, a query that keeps the rule of quick pages or one that breaks it, its number of variables and its answers; made anew, up
+    to eleven times, while they have no gaps."""
     for _ in range(12):
         tree, columns = random_tree(source), source.randint(1, 3)
         query = random_query(source, columns)
+        while keeps != (reference.breaking(query) is None):
+            query = random_query(source, columns)
         rows = answers(tree, query, columns)
         if 0 < len(rows) < (len(tree) // 2) ** columns:
             break
@@ -268,11 +305,12 @@ def leaves_out(tree, query, columns, rows):
 
 
 def random_jobs(count):
-    """Random jobs. Of their lists at least three in four have gaps, neither no row nor every row, and the queries of these have
-    every kind and every axis; in at least one of twenty jobs a star leaves out a document node."""
+    """Random jobs, whose queries keep the rule of quick pages in turn or break it. Of their lists at least three in four have gaps,
+    neither no row nor every row, and the queries of these have every kind and every axis; in at least one of twenty jobs a star leaves
+    out a document node."""
     source, empty, full, kinds, axes, left_out = random.Random(2024), 0, 0, set(), set(), 0
     for job in range(count):
-        tree, query, columns, rows = random_list(source)
+        tree, query, columns, rows = random_list(source, job % 2 == 0)
         compare("random job %d" % job, printed(random_file(source, tree, query, columns)), listed(rows))
         left_out += leaves_out(tree, query, columns, rows)
         empty += not rows
@@ -332,6 +370,10 @@ for name, tree, query, columns, wanted in TABLES:
     compare(name, printed(make.job(tree, query, columns)), wanted)
 for name, tree, query, columns, rows in TESTS + LONG:
     compare(name, printed(make.job(tree, query, columns)), listed(rows))
+for name, keeps, query in THREE:
+    compare(name, printed(make.job(DOCUMENT, query, 3)), listed(answers(DOCUMENT, query, 3)))
+    if keeps != (reference.breaking(query) is None):
+        problems.append("%s: the rule of quick pages is %s" % (name, "broken" if keeps else "kept"))
 examples()
 inputs()
 random_jobs(200)

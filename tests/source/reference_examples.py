@@ -1,11 +1,12 @@
 #!/usr/bin/env python3
 """The examples of docs/REFERENCE.md are right by tests/support/reference.py: what stands on each axis, a relation as bytes and as
-bits, the index, the job file byte for byte, and what the program prints for it. The worked readings and refusals of typed queries are
-lines of tests/boundary.c, which holds the library to them."""
+bits, the calls of a quick page, the index, the job file byte for byte, and what the program prints for it. The worked readings and
+refusals of typed queries, and the queries that keep or break the rule of quick pages, are lines of tests/boundary.c, which holds the
+library to them."""
 import itertools, os, re, struct, sys
 sys.dont_write_bytecode = True
 sys.path.insert(0, os.path.join(os.path.dirname(__file__), "..", "support"))
-from reference import Tree, nodes_of, relation, words
+from reference import Tree, evaluations, nodes_of, relation, words
 from repository import end, read
 
 text = read("docs/REFERENCE.md")
@@ -14,6 +15,10 @@ text = read("docs/REFERENCE.md")
 def block(heading, number):
     """A fenced block of a section."""
     return text.partition("\n## %s\n" % heading)[2].split("```")[2 * number + 1]
+
+
+def section(heading):
+    return text.partition("\n## %s\n" % heading)[2].partition("\n## ")[0]
 
 
 def decoded(dump):
@@ -51,13 +56,34 @@ printed = "".join("%s\n" % " ".join(map(str, row)) for row in answers) + "end %d
 if block("Output of the program", 0).lstrip("\n") != printed:
     problems.append("for the job file the program prints\n%s" % printed)
 
+# quick pages of two rows: call | rows | count | more | evaluations, in all and for each row that is sought
+last, left = None, answers
+for call in 1, 2, 3:
+    found = (left + [None])[:3]
+    costs = [evaluations(tree.n, a, b) for a, b in zip([last] + found, found)]
+    rows = [str(row) for row in found[:-1]]
+    each = ", ".join("%d for %s" % pair for pair in zip(costs, rows + ["`more`"]))
+    told = "%d: %s" % (sum(costs), each) if rows else sum(costs)
+    line = "| %d | %s | %d | %s | %s |\n" % (call, " ".join(rows) or "none", len(rows), str(found[-1] is not None).lower(), told)
+    if line not in section("Quick pages"):
+        problems.append("of the quick pages call %d is %s" % (call, line))
+    last, left = (found[-2] if rows else last), left[len(rows) :]
+
+# `text`; `text` | the rule is kept, or 29 at an entry, for each or for all
+rules = []
+for queries, told in re.findall(r"^\| ((?:`[^`]+`(?:; )?)+) \| (kept.*|29 at .*) \|$", section("Quick pages"), re.M):
+    queries, places = re.findall("`([^`]+)`", queries), re.findall(r"29 at (\d+)", told)
+    replies = ["29, %s" % place for place in places] or ["0, 0"]
+    rules += zip(queries, replies if len(replies) > 1 else replies * len(queries))
+
 # `text` | entries | variables, and `text` | number at place
 readings = re.findall(r"^\| `([^`]+)` \| ((?:`[\d ]+`(?:, )?)+) \| (\d) \|$", text, re.M)
 unread = re.findall(r"^\| `([^`]+)` \| (\d+) at (\d+) \|", text, re.M)
 lines = ['reads("%s", TEACHING, %s, NUMBERS(%s));' % (t, v, ", ".join(re.findall(r"\d+", e))) for t, e, v in readings]
 lines += ['refuses("%s", TEACHING, 256, %s, %s);' % line for line in unread]
+lines += ['ruled("%s", %s);' % line for line in rules]
 tried = " ".join(read("tests/boundary.c").split())
-if not readings or not unread:
-    problems.append("the worked readings and refusals of typed queries are not found")
+if not readings or not unread or not rules:
+    problems.append("the worked readings and refusals of typed queries, or the queries of quick pages, are not found")
 problems += ["tests/boundary.c does not try %s" % line for line in lines if " ".join(line.split()) not in tried]
 end(problems)

@@ -98,6 +98,31 @@ def relation(tree, query, assignment=()):
     return evaluated(tree, query, assignment)[-1]
 
 
+def breaking(query):
+    """The lowest entry of a query table that breaks the rule of quick pages: a variable stands in both operands of a composition, a
+    filter or an `and`, or under an intersect, an except or a `not`. None where the query keeps the rule."""
+    under = []  # of each entry, the variables under it
+    for e in range(0, len(query), 4):
+        kind, left, right, _ = query[e : e + 4]
+        a = under[left] if kind not in (0, 6, 12) else {left} if kind else set()
+        b = under[right] if kind in (1, 2, 3, 4, 5, 10, 11) else set()
+        if kind in (1, 5, 10) and a & b or kind in (3, 4, 9) and a | b:
+            return e // 4
+        under.append(a | b)
+    return None
+
+
+def evaluations(n, a, b):
+    """The evaluations that a quick page makes to find the row b after the row a, or as the first of all where a is None; or that there
+    is none, where b is None."""
+    if a is None:
+        return 1 + sum(y + 1 for y in b or ())
+    if b is None:
+        return sum(n - 1 - x for x in a)
+    j = next(i for i in range(len(a)) if a[i] != b[i])
+    return b[j] - a[j] + sum(n - 1 - x + y + 1 for x, y in zip(a[j + 1 :], b[j + 1 :]))
+
+
 def words(pairs):
     """A relation in bits: four words of 64 bits for each node, the lowest first."""
     return [row >> 64 * k & (1 << 64) - 1 for row in pairs for k in range(4)]

@@ -13,12 +13,13 @@ use Rattle.model.specs.declared.Reply.{Reply}
 use Rattle.model.specs.Tree.{treeOf, sizeOf}
 use Rattle.model.specs.QueryTable.{entriesOf}
 use Rattle.model.specs.Refusals.{verdict, reply}
-use Rattle.model.specs.Checks.{badNode, treeChecks, queryChecks, cursorChecks, roomChecks, pageChecks}
+use Rattle.model.specs.Checks.{badNode, treeChecks, queryChecks, cursorChecks, roomChecks, pageChecks, quickChecks}
 use Rattle.model.specs.Accepted.{Ordered, Below}
 use Rattle.model.specs.Answers.{answers}
 use Rattle.model.specs.Pages.{rowOf, hasBegun, paged}
 use Rattle.model.proofs.Exists.{none-of}
 use Rattle.model.proofs.Refusals.{Passes, Passes-front}
+use Rattle.model.proofs.Quick.{quick-accepts}
 use Rattle.model.proofs.Accepted.{tree-ordered, tree-numbered, query-numbered, columns-most, columns-least, entries-some, last-path, query-evaluable}
 use Rattle.checks.proofs.Verdicts.{zero-of, cursor-numbered}
 use Rattle.tree.specs.Links.{PreviousSiblings}
@@ -60,6 +61,12 @@ module _ (t q : List ℕ) (columns : ℕ) (c : Cursor) (room : ℕ) (v : Reply) 
         most = page-few;
         query = query-evaluable q 1 columns (passes .1 .0) t;
       }
+
+-- of an accepted quick call
+pub quick-few : (t q : List ℕ) (columns : ℕ) (c : Cursor) (room : ℕ) (v : Reply) → v ≡ verdict (quickChecks t q columns c room) → v .number ≡ 0 → columns ≤ 3
+quick-few t q columns c room v p z =
+    page-few t q columns c room (verdict (pageChecks t q columns c room)) refl
+    (quick-accepts t q columns c room (zero-of (quickChecks t q columns c room) v p z))
 
 -- What a call leaves.
 

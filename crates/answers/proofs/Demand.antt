@@ -4,7 +4,7 @@ use native.Mathlib.Nat.{add-zero, add-assoc}
 use native.Mathlib.Decide.{decLe}
 use native.Mathlib.Omega.{arith}
 use mathlib.Core.Path.{_≡_, refl, sym, ap, ap₂, _∙_, subst}
-use mathlib.Core.Bool.{true, false}
+use mathlib.Core.Bool.{Bool, true, false}
 use mathlib.Core.List.{List, [], _∷_, _++_}
 use lib.Dec.{ltb, eqb}
 use lib.ListN.{length, take, drop, length-take, length-drop}
@@ -16,54 +16,58 @@ use Rattle.model.specs.declared.PageReply.{PageReply}
 use Rattle.model.specs.Answers.{Row}
 use Rattle.model.specs.Pages.{Outcome, after, moved, flat, fitting, paged, unpaged}
 use Rattle.model.specs.Refusals.{verdict}
-use Rattle.model.specs.Checks.{pageChecks}
+use Rattle.model.specs.Checks.{pageChecks, quickChecks}
 use Rattle.model.proofs.Booleans.{Seen, yes!, no!, seen, no-yes, bool-ext}
 use Rattle.model.proofs.Answers.{Wide, Rising, answers-rising, answers-wide}
-use Rattle.model.specs.Services.{pageOutcome, pageReply}
-use Rattle.answers.specs.Calls.{Lent, Call, Meets, Chain, lentTo, OneChain, accepted, Alike, rowsIn, rowsGiven, roomOf, rooms, answersOf, answersAfter, cursorAfter, Page, NoPage, Tells, Paging, Demand3}
-use Rattle.answers.proofs.Accepted.{page-few}
+use Rattle.model.specs.Services.{judged, pageOutcome, quickOutcome, pageReply}
+use Rattle.answers.specs.Calls.{Lent, Call, outcomeOf, Meets, Chain, Asked, lentTo, OneChain, accepted, Alike, rowsIn, rowsGiven, roomOf, rooms, answersOf, answersAfter, cursorAfter, Page, NoPage, Tells, Paging, Demand3}
+use Rattle.answers.proofs.Accepted.{page-few, quick-few}
 use Rattle.answers.proofs.Paging.{in-take, in-after, rows-back, after-page, after-part, some-rest, some-after}
 use Rattle.answers.proofs.Writing.{flat-long}
 
 -- One call.
 
 -- a call with this outcome
-abbrev went : Lent → Cursor → List ℕ → Outcome → Call
-went l c buffer o = record { lent = l; lentBuffer = buffer; reply = pageReply o; cursor = o .cursor; buffer = o .buffer }
-
--- the outcome that the contract of `page` says
-abbrev outcome : Lent → Cursor → List ℕ → Outcome
-outcome l c buffer = pageOutcome (l .tree) (l .query) (l .columns) c buffer
+abbrev went : Bool → Lent → Cursor → List ℕ → Outcome → Call
+went quick l c buffer o = record { quick = quick; lent = l; lentBuffer = buffer; reply = pageReply o; cursor = o .cursor; buffer = o .buffer }
 
 -- what a call leaves is settled by what it is lent
-settled : (c : Cursor) (g : Call) → Meets c g → g ≡ went (g .lent) c (g .lentBuffer) (outcome (g .lent) c (g .lentBuffer))
-settled c g d = λ i. record { lent = g .lent; lentBuffer = g .lentBuffer; reply = d .0 i; cursor = d .1 i; buffer = d .2 i }
+settled : (c : Cursor) (g : Call) → Meets c g → g ≡ went (g .quick) (g .lent) c (g .lentBuffer) (outcomeOf (g .quick) (g .lent) c (g .lentBuffer))
+settled c g d = λ i. record { quick = g .quick; lent = g .lent; lentBuffer = g .lentBuffer; reply = d .0 i; cursor = d .1 i; buffer = d .2 i }
 
 -- what holds of an accepted call and of a refused one holds of any call
 module _ (P : Call → Type 0) where
-  by-outcome : (l : Lent) (c : Cursor) (buffer : List ℕ)
-      → (eqb (outcome l c buffer .number) 0 ≡ true → l .columns ≤ 3 → P (went l c buffer (paged (l .columns) (answersOf l) c buffer)))
-      → ((v : Reply) → eqb (v .number) 0 ≡ false → P (went l c buffer (unpaged v c buffer)))
-      → P (went l c buffer (outcome l c buffer))
-  unfolding pageOutcome
-  by-outcome l c buffer pages stops = go (seen (eqb (v .number) 0))
+  by-verdict : (quick : Bool) (l : Lent) (c : Cursor) (buffer : List ℕ) (v : Reply) → (v .number ≡ 0 → l .columns ≤ 3)
+      → (eqb (judged v (l .columns) (answersOf l) c buffer .number) 0 ≡ true → l .columns ≤ 3 → P (went quick l c buffer (paged (l .columns) (answersOf l) c buffer)))
+      → ((v : Reply) → eqb (v .number) 0 ≡ false → P (went quick l c buffer (unpaged v c buffer)))
+      → P (went quick l c buffer (judged v (l .columns) (answersOf l) c buffer))
+  by-verdict quick l c buffer v few pages stops = go (seen (eqb (v .number) 0))
     where
-      v : Reply
-      v = verdict (pageChecks (l .tree) (l .query) (l .columns) c (length buffer))
-
-      go : Seen (eqb (v .number) 0) → P (went l c buffer (outcome l c buffer))
-      go (yes! t) =
-          rw t (pages (rw t refl) (page-few (l .tree) (l .query) (l .columns) c (length buffer) v refl (eqb-true (v .number) 0 t)))
+      go : Seen (eqb (v .number) 0) → P (went quick l c buffer (judged v (l .columns) (answersOf l) c buffer))
+      go (yes! t) = rw t (pages (rw t refl) (few (eqb-true (v .number) 0 t)))
       go (no! t) = rw t (stops v t)
+
+  -- a quick call and a plain one differ by the verdict alone
+  by-outcome : (quick : Bool) (l : Lent) (c : Cursor) (buffer : List ℕ)
+      → (eqb (outcomeOf quick l c buffer .number) 0 ≡ true → l .columns ≤ 3 → P (went quick l c buffer (paged (l .columns) (answersOf l) c buffer)))
+      → ((v : Reply) → eqb (v .number) 0 ≡ false → P (went quick l c buffer (unpaged v c buffer)))
+      → P (went quick l c buffer (outcomeOf quick l c buffer))
+  unfolding pageOutcome quickOutcome
+  by-outcome true l c buffer =
+      by-verdict true l c buffer (verdict (quickChecks (l .tree) (l .query) (l .columns) c (length buffer)))
+      (quick-few (l .tree) (l .query) (l .columns) c (length buffer) (verdict (quickChecks (l .tree) (l .query) (l .columns) c (length buffer))) refl)
+  by-outcome false l c buffer =
+      by-verdict false l c buffer (verdict (pageChecks (l .tree) (l .query) (l .columns) c (length buffer)))
+      (page-few (l .tree) (l .query) (l .columns) c (length buffer) (verdict (pageChecks (l .tree) (l .query) (l .columns) c (length buffer))) refl)
 
   by-call : (c : Cursor) (g : Call) → Meets c g
       → (accepted g ≡ true → g .lent .columns ≤ 3
-      → P (went (g .lent) c (g .lentBuffer) (paged (g .lent .columns) (answersOf (g .lent)) c (g .lentBuffer))))
-      → ((v : Reply) → eqb (v .number) 0 ≡ false → P (went (g .lent) c (g .lentBuffer) (unpaged v c (g .lentBuffer))))
+      → P (went (g .quick) (g .lent) c (g .lentBuffer) (paged (g .lent .columns) (answersOf (g .lent)) c (g .lentBuffer))))
+      → ((v : Reply) → eqb (v .number) 0 ≡ false → P (went (g .quick) (g .lent) c (g .lentBuffer) (unpaged v c (g .lentBuffer))))
       → P g
   by-call c g d pages stops =
       subst P (sym (settled c g d))
-      (by-outcome (g .lent) c (g .lentBuffer) (λ t. pages (ap (λ (z : PageReply). eqb (z .number) 0) (d .0) ∙ t)) stops)
+      (by-outcome (g .quick) (g .lent) c (g .lentBuffer) (λ t. pages (ap (λ (z : PageReply). eqb (z .number) 0) (d .0) ∙ t)) stops)
 
 -- the page that is due
 
@@ -74,8 +78,8 @@ take-min xs m = go (decLe m (length xs))
     go (yes h) = let e : min (length xs) m ≡ m = omega arith in rw e
     go (no h) = take-all m xs (omega arith) ∙ sym (take-all (min (length xs) m) xs (omega arith))
 
-page-due : (l : Lent) (c : Cursor) (buffer : List ℕ) → Page c (went l c buffer (paged (l .columns) (answersOf l) c buffer))
-page-due l c buffer =
+page-due : (quick : Bool) (l : Lent) (c : Cursor) (buffer : List ℕ) → Page c (went quick l c buffer (paged (l .columns) (answersOf l) c buffer))
+page-due quick l c buffer =
     record {
       count = long;
       rows = back ∙ take-min (answersAfter l c) r;
@@ -106,7 +110,7 @@ page-due l c buffer =
     back = rows-back k P (drop (length (flat P)) buffer) wide
 
 page : (c : Cursor) (g : Call) → Meets c g → accepted g ≡ true → Page c g
-page c g d = by-call (λ z. accepted z ≡ true → Page c z) c g d (λ t few _. page-due (g .lent) c (g .lentBuffer)) (λ v t e. no-yes t e)
+page c g d = by-call (λ z. accepted z ≡ true → Page c z) c g d (λ t few _. page-due (g .quick) (g .lent) c (g .lentBuffer)) (λ v t e. no-yes t e)
 
 no-page : (c : Cursor) (g : Call) → Meets c g → accepted g ≡ false → NoPage c g
 no-page c g d =
@@ -123,11 +127,11 @@ record Step (l : Lent) (m : ℕ) (g : Call) : Type 0 where
   more : accepted g ≡ true → g .reply .more ≡ ltb (min (length (answersOf l)) (m + roomOf g)) (length (answersOf l))
 
 -- an accepted call
-step-accepted : (c : Cursor) (m : ℕ) (l : Lent) (buffer : List ℕ) → l .columns ≤ 3 → after (l .columns) (answersOf l) c ≡ drop m (answersOf l)
-    → Step l m (went l c buffer (paged (l .columns) (answersOf l) c buffer))
-step-accepted c m l buffer small h =
+step-accepted : (quick : Bool) (c : Cursor) (m : ℕ) (l : Lent) (buffer : List ℕ) → l .columns ≤ 3 → after (l .columns) (answersOf l) c ≡ drop m (answersOf l)
+    → Step l m (went quick l c buffer (paged (l .columns) (answersOf l) c buffer))
+step-accepted quick c m l buffer small h =
     record {
-      wrote = page-due l c buffer .rows ∙ sym (take-min (after k L c) r) ∙ ap (λ (z : List Row). take r z) h;
+      wrote = page-due quick l c buffer .rows ∙ sym (take-min (after k L c) r) ∙ ap (λ (z : List Row). take r z) h;
       count = rw (h, length-take r (drop m L), length-drop m L);
       next = after-page k L rising wide small c m r h;
       more = λ _. rw h (some-after k L rising wide small m r);
@@ -149,9 +153,9 @@ step-accepted c m l buffer small h =
     r = length buffer / l .columns
 
 -- a refused call, whatever it is lent
-step-refused : (l : Lent) (c : Cursor) (m : ℕ) (l₁ : Lent) (buffer : List ℕ) (v : Reply) → after (l .columns) (answersOf l) c ≡ drop m (answersOf l)
-    → eqb (v .number) 0 ≡ false → Step l m (went l₁ c buffer (unpaged v c buffer))
-step-refused l c m l₁ buffer v h t =
+step-refused : (quick : Bool) (l : Lent) (c : Cursor) (m : ℕ) (l₁ : Lent) (buffer : List ℕ) (v : Reply) → after (l .columns) (answersOf l) c ≡ drop m (answersOf l)
+    → eqb (v .number) 0 ≡ false → Step l m (went quick l₁ c buffer (unpaged v c buffer))
+step-refused quick l c m l₁ buffer v h t =
     record {
       wrote = rw t;
       count = rw t (omega arith);
@@ -166,9 +170,9 @@ step l c m g h d alike =
     by-call (Step l m) c g d
     (λ t few.
     subst
-    (λ (z : Lent). answersAfter z c ≡ drop m (answersOf z) → Step z m (went (g .lent) c (g .lentBuffer) (paged (g .lent .columns) (answersOf (g .lent)) c (g .lentBuffer))))
-    (alike t) (step-accepted c m (g .lent) (g .lentBuffer) few) h)
-    (λ v t. step-refused l c m (g .lent) (g .lentBuffer) v h t)
+    (λ (z : Lent). answersAfter z c ≡ drop m (answersOf z) → Step z m (went (g .quick) (g .lent) c (g .lentBuffer) (paged (g .lent .columns) (answersOf (g .lent)) c (g .lentBuffer))))
+    (alike t) (step-accepted (g .quick) c m (g .lent) (g .lentBuffer) few) h)
+    (λ v t. step-refused (g .quick) l c m (g .lent) (g .lentBuffer) v h t)
 
 module _ (l : Lent) where
   -- the rows that a list of calls wrote, from answer m on
@@ -243,14 +247,14 @@ met (d ∷ before) later g c ch = met before later g (d .cursor) (ch .1)
 met-at : (gs before later : List Call) (g : Call) (c : Cursor) → Chain c gs → gs ≡ before ++ (g ∷ later) → Meets (cursorAfter c before) g
 met-at gs before later g c ch e = met before later g c (subst (λ (z : List Call). Chain c z) e ch)
 
--- Of any list of page calls, each lent the cursor that the one before it left and otherwise whatever it is lent: an accepted
--- call's count is the number of rows after its cursor or, if they are fewer, the whole rows of its buffer, its rows are as many
--- of those, it says that there is more exactly if there are others after them, and it moves the cursor to the last; a refused
--- one leaves cursor and buffer as they were, counts nothing and says that there is no more. And where all accepted calls are
--- lent the same tree, query and number of variables: the rows written, in the order of the calls, are the first m of the
--- answers, if the first cursor is fresh, or of those after it, m being the smaller of their number and the sum of the whole
--- rows that the accepted calls had room for; the count of each call is what it added to m; an accepted call says that there is
--- more exactly if m after it is below their number.
+-- Of any list of page calls, plain and quick ones mixed, each lent the cursor that the one before it left and otherwise whatever
+-- it is lent: an accepted call's count is the number of rows after its cursor or, if they are fewer, the whole rows of its
+-- buffer, its rows are as many of those, it says that there is more exactly if there are others after them, and it moves the
+-- cursor to the last; a refused one leaves cursor and buffer as they were, counts nothing and says that there is no more. And
+-- where all accepted calls are lent the same tree, query and number of variables: the rows written, in the order of the calls,
+-- are the first m of the answers, if the first cursor is fresh, or of those after it, m being the smaller of their number and the
+-- sum of the whole rows that the accepted calls had room for; the count of each call is what it added to m; an accepted call says
+-- that there is more exactly if m after it is below their number.
 pub demand3 : (c : Cursor) (gs : List Call) → Chain c gs → Demand3 c gs
 demand3 c gs ch =
     record {
@@ -260,18 +264,22 @@ demand3 c gs ch =
       resumed = λ l al. paging l gs c ch al;
     }
 
--- the calls that are lent ls, from the cursor c on
-abbrev callsFrom : Cursor → List (Lent × List ℕ) → List Call
+-- the outcome of a call that is asked for
+abbrev outcome : Asked → Cursor → Outcome
+outcome l c = outcomeOf (l .0) (l .1) c (l .2)
+
+-- the calls that are asked for in ls, from the cursor c on
+abbrev callsFrom : Cursor → List Asked → List Call
 callsFrom c [] = []
-callsFrom c (l ∷ ls) = went (l .0) c (l .1) (outcome (l .0) c (l .1)) ∷ callsFrom (outcome (l .0) c (l .1) .cursor) ls
+callsFrom c (l ∷ ls) = went (l .0) (l .1) c (l .2) (outcome l c) ∷ callsFrom (outcome l c .cursor) ls
 
-calls-lent : (c : Cursor) (ls : List (Lent × List ℕ)) → lentTo (callsFrom c ls) ≡ ls
+calls-lent : (c : Cursor) (ls : List Asked) → lentTo (callsFrom c ls) ≡ ls
 calls-lent c [] = refl
-calls-lent c (l ∷ ls) = ap {B = List (Lent × List ℕ)} (λ z. l ∷ z) (calls-lent (outcome (l .0) c (l .1) .cursor) ls)
+calls-lent c (l ∷ ls) = ap {B = List Asked} (λ z. l ∷ z) (calls-lent (outcome l c .cursor) ls)
 
-calls-chain : (c : Cursor) (ls : List (Lent × List ℕ)) → Chain c (callsFrom c ls)
+calls-chain : (c : Cursor) (ls : List Asked) → Chain c (callsFrom c ls)
 calls-chain c [] = tt
-calls-chain c (l ∷ ls) = ((refl, refl, refl), calls-chain (outcome (l .0) c (l .1) .cursor) ls)
+calls-chain c (l ∷ ls) = ((refl, refl, refl), calls-chain (outcome l c .cursor) ls)
 
 calls-only : (c : Cursor) (gs : List Call) → Chain c gs → gs ≡ callsFrom c (lentTo gs)
 calls-only c [] ch = refl
@@ -280,7 +288,7 @@ calls-only c (g ∷ gs) ch =
     (calls-only (g .cursor) gs (ch .1) ∙ ap (λ (z : Cursor). callsFrom z (lentTo gs)) (ch .0 .1))
 
 -- Whatever calls are lent one after the other, from any cursor on, there is such a list of them, and only one.
-pub chain-exists : (c : Cursor) (ls : List (Lent × List ℕ)) → OneChain c ls
+pub chain-exists : (c : Cursor) (ls : List Asked) → OneChain c ls
 chain-exists c ls =
     record {
       calls = callsFrom c ls;

@@ -1,4 +1,4 @@
--- A list of page calls, and what demand 3 says of it.
+-- A list of page calls, plain and quick ones (document 02, §7) in any order, and what demand 3 says of it.
 use Prim.Native.Nat.{ℕ, zero, suc, _+_, _*_, _/_, min}
 use mathlib.Core.Path.{_≡_}
 use mathlib.Core.Bool.{Bool, true, false, cond}
@@ -8,8 +8,8 @@ use lib.ListN.{length, take, drop}
 use Rattle.model.specs.declared.Cursor.{Cursor}
 use Rattle.model.specs.declared.PageReply.{PageReply}
 use Rattle.model.specs.Answers.{Row, answers}
-use Rattle.model.specs.Pages.{hasBegun, after, moved}
-use Rattle.model.specs.Services.{pageOutcome, PageLeaves}
+use Rattle.model.specs.Pages.{Outcome, hasBegun, after, moved}
+use Rattle.model.specs.Services.{pageOutcome, quickOutcome, PageLeaves}
 
 -- Calls.
 
@@ -19,32 +19,41 @@ pub record Lent : Type 0 where
   pub query : List ℕ
   pub columns : ℕ
 
--- one page call as it went: what it was lent, its buffer as it was lent, its reply, and its cursor and its buffer as it
--- returned
+-- one page call as it went: whether it was a quick one, what it was lent, its buffer as it was lent, its reply (of a quick one that
+-- but for the evaluations), and its cursor and its buffer as it returned
 pub record Call : Type 0 where
+  pub quick : Bool
   pub lent : Lent
   pub lentBuffer : List ℕ
   pub reply : PageReply
   pub cursor : Cursor
   pub buffer : List ℕ
 
--- the call, lent the cursor c, did what the contract of `page` says
+-- the outcome that the contract of `page` says, or that of the quick page, of a call that is lent l, the cursor c and a buffer
+abbrev pub outcomeOf : Bool → Lent → Cursor → List ℕ → Outcome
+outcomeOf quick l c buffer =
+    cond quick (quickOutcome (l .tree) (l .query) (l .columns) c buffer) (pageOutcome (l .tree) (l .query) (l .columns) c buffer)
+
+-- the call, lent the cursor c, did what its contract says
 abbrev pub Meets : Cursor → Call → Type 0
-Meets c g =
-    PageLeaves (pageOutcome (g .lent .tree) (g .lent .query) (g .lent .columns) c (g .lentBuffer)) (g .reply) (g .cursor) (g .buffer)
+Meets c g = PageLeaves (outcomeOf (g .quick) (g .lent) c (g .lentBuffer)) (g .reply) (g .cursor) (g .buffer)
 
 -- each call did, and was lent the cursor as the call before it left it, the first c
 abbrev pub Chain : Cursor → List Call → Type 0
 Chain c [] = Unit
 Chain c (g ∷ gs) = Meets c g × Chain (g .cursor) gs
 
--- what each call of a list was lent, its buffer beside the rest
-abbrev pub lentTo : List Call → List (Lent × List ℕ)
-lentTo [] = []
-lentTo (g ∷ gs) = (g .lent, g .lentBuffer) ∷ lentTo gs
+-- a call that is asked for: whether a quick one, what it is lent, and its buffer
+abbrev pub Asked : Type 0
+Asked = Bool × Lent × List ℕ
 
--- there are calls, from the cursor c on, that are lent ls, and there is only one list of them
-pub record OneChain (c : Cursor) (ls : List (Lent × List ℕ)) : Type 0 where
+-- what was asked for in a list of calls
+abbrev pub lentTo : List Call → List Asked
+lentTo [] = []
+lentTo (g ∷ gs) = (g .quick, g .lent, g .lentBuffer) ∷ lentTo gs
+
+-- there are calls, from the cursor c on, that are asked for in ls, and there is only one list of them
+pub record OneChain (c : Cursor) (ls : List Asked) : Type 0 where
   pub calls : List Call
   pub lent : lentTo calls ≡ ls
   pub chain : Chain c calls
@@ -106,7 +115,7 @@ pub record NoPage (c : Cursor) (g : Call) : Type 0 where
 
 -- Calls that page through the same answers.
 
--- every accepted call was lent l; a refused one may have been lent anything
+-- every accepted call was lent l, be it quick or not; a refused one may have been lent anything
 abbrev pub Alike : Lent → List Call → Type 0
 Alike l [] = Unit
 Alike l (g ∷ gs) = (accepted g ≡ true → g .lent ≡ l) × Alike l gs

@@ -20,9 +20,9 @@ pub struct Paged {
 }
 
 // A place among all rows of k numbers: at a row, of which the first k numbers count, or past the last row.
-struct Spot {
-    there: bool,
-    row: [u16; 3],
+pub struct Spot {
+    pub there: bool,
+    pub row: [u16; 3],
 }
 
 // All rows, in their order.
@@ -70,7 +70,7 @@ fn start(n: usize, k: usize, cursor: model::Cursor) -> Spot
 // The answers among them.
 
 // The query has a pair under the row, from any start: the forward image of all nodes is not empty. One evaluation.
-fn satisfies(tree: &[u16], prev: &[u16], query: &[u16], k: usize, row: [u16; 3]) -> bool
+pub fn satisfies(tree: &[u16], prev: &[u16], query: &[u16], k: usize, row: [u16; 3]) -> bool
     requires { ⌜ Searchable (now tree) (now prev) (now query) k × Below (sizeOf (now tree)) (take k row) ⌝ }
     ensures { λ r. ⌜ r ≡ satisfied (now (tree .entry)) (now (query .entry)) (take k row) ⌝ }
 {
@@ -142,7 +142,7 @@ fn first_answer(tree: &[u16], prev: &[u16], query: &[u16], k: usize, cursor: mod
 // A page of them.
 
 // A row is written to a buffer, from a place on.
-fn write_row(k: usize, row: [u16; 3], rows: &mut [u16], at: usize)
+pub fn write_row(k: usize, row: [u16; 3], rows: &mut [u16], at: usize)
     requires { ⌜ (k ≤ 3) × (at + k ≤ length (now rows)) ⌝ }
     ensures { λ _. ⌜ now (rows .exit) ≡ paste (now (rows .entry)) at row k ⌝ }
 {
@@ -161,7 +161,7 @@ fn choose(b: bool, x: u16, y: u16) -> u16
 }
 
 // The cursor at a row of k numbers; its other numbers are kept.
-fn cursor_at(k: usize, cursor: model::Cursor, row: [u16; 3]) -> model::Cursor
+pub fn cursor_at(k: usize, cursor: model::Cursor, row: [u16; 3]) -> model::Cursor
     requires { ⌜ (1 ≤ k) × (k ≤ 3) ⌝ }
     ensures { λ r. ⌜ r ≡ atRow cursor (take k row) ⌝ }
 {
@@ -174,7 +174,7 @@ fn cursor_at(k: usize, cursor: model::Cursor, row: [u16; 3]) -> model::Cursor
 }
 
 // The reply to an accepted call, and the cursor after it.
-fn page_of(count: usize, more: bool, last: model::Cursor) -> Paged
+pub fn page_of(count: usize, more: bool, last: model::Cursor) -> Paged
     ensures { λ r. ⌜ r ≡ pageOf count more last ⌝ }
 {
     Paged {

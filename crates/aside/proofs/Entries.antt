@@ -15,30 +15,14 @@ use Rattle.model.specs.Encoding.{size}
 use Rattle.model.specs.QueryTable.{entriesOf, kind, left, right, entry}
 use Rattle.model.specs.Checks.{hasLeft, hasRight}
 use Rattle.model.proofs.Booleans.{no-yes}
-use Rattle.aside.specs.Aside.{inTurn, asideIn, termAt, asideAt, Shaped, CountsTo}
+use Rattle.model.proofs.Shaped.{left-lower, right-lower}
+use Rattle.model.specs.Accepted.{Shaped}
+use Rattle.aside.specs.Aside.{inTurn, asideIn, termAt, asideAt, CountsTo}
 use Rattle.aside.proofs.Turns.{either-left, either-right, either-most}
 use Rattle.aside.proofs.Terms.{Form, form}
 use Rattle.aside.proofs.Terms.Form.{none!, one!, two! }
 
 module _ (q : List ℕ) (ok : Shaped q) (e : ℕ) (em : e < entriesOf q) where
-  -- operands come before their entry
-
-  pub left-lower : hasLeft (kind q e) ≡ true → left q e < e
-  left-lower h = go (form q ok e em)
-    where
-      go : Form q e → left q e < e
-      go (none! a b g p) = no-yes a h
-      go (one! a b l p) = l
-      go (two! a b l r p) = l
-
-  pub right-lower : hasRight (kind q e) ≡ true → right q e < e
-  right-lower h = go (form q ok e em)
-    where
-      go : Form q e → right q e < e
-      go (none! a b g p) = no-yes b h
-      go (one! a b l p) = no-yes b h
-      go (two! a b l r p) = r
-
   -- an entry with no operand: kinds 0, 6 and 12
   pub aside-none : hasLeft (kind q e) ≡ false → asideAt q e ≡ 0
   unfolding asideIn

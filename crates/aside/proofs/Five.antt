@@ -14,10 +14,12 @@ use Rattle.model.specs.Encoding.{Term, pathTerm, size}
 use Rattle.model.specs.QueryTable.{entriesOf, kind, left, right, entry, pathAt, lastOf}
 use Rattle.model.specs.Checks.{hasLeft, hasRight, naming, uses}
 use Rattle.model.proofs.Booleans.{lt-or-le}
-use Rattle.aside.specs.Aside.{asideIn, aside, entriesIn, termAt, asideAt, Shaped}
+use Rattle.model.specs.Accepted.{Shaped}
+use Rattle.aside.specs.Aside.{asideIn, aside, entriesIn, termAt, asideAt}
 use Rattle.aside.proofs.Turns.{either-power}
 use Rattle.aside.proofs.Terms.{term-path}
-use Rattle.aside.proofs.Entries.{left-lower, right-lower, size-at}
+use Rattle.model.proofs.Shaped.{left-lower, right-lower}
+use Rattle.aside.proofs.Entries.{size-at}
 use Rattle.aside.proofs.Sums.{sum, times, sum-never, sum-once, sum-more, sum-pick}
 
 -- k tables aside take at least 2^(k + 1) - 1 entries, of a path or a node expression

@@ -1,15 +1,14 @@
 -- How many tables are kept aside while a query is evaluated over bits. An operation on two tables evaluates one operand, keeps its
 -- table aside, and evaluates the other.
-use Prim.Native.Nat.{ℕ, suc, _<_, _≤_, min, max}
+use Prim.Native.Nat.{ℕ, suc, _<_, min, max}
 use mathlib.Core.Path.{_≡_}
-use mathlib.Core.Bool.{true, cond}
+use mathlib.Core.Bool.{cond}
 use mathlib.Core.List.{List}
 use lib.ListN.{length, getD}
 use lib.Dec.{ltb}
 use Rattle.model.specs.Syntax.{Path}
 use Rattle.model.specs.Encoding.{Term, pathTerm, exprTerm, size}
-use Rattle.model.specs.QueryTable.{entriesOf, kind, left, right, pathAt, exprAt}
-use Rattle.model.specs.Checks.{leftPath, leftExpr, rightPath, rightExpr}
+use Rattle.model.specs.QueryTable.{entriesOf, kind, pathAt, exprAt}
 
 -- two operands in turn, which need a and b: the one that needs more first, then the other with one table more aside; so it is the
 -- larger of the two, or one more where they are equal (proofs/Turns.antt: turn-less, turn-same)
@@ -38,16 +37,6 @@ termAt q e = cond (ltb (kind q e) 8) (pathTerm (pathAt q e)) (exprTerm (exprAt q
 -- for entry e of a query table
 abbrev pub asideAt : List ℕ → ℕ → ℕ
 asideAt q e = asideIn (termAt q e)
-
--- a query table of known kinds whose operands come before their entry and are of the sort that is due: of what the checks secure
--- (model: Evaluable), the part that speaks of the query alone
-pub record Shaped (q : List ℕ) : Type 0 where
-  pub few : entriesOf q ≤ 64
-  pub known : (e : ℕ) → e < entriesOf q → kind q e ≤ 12
-  pub left-path : (e : ℕ) → e < entriesOf q → leftPath (kind q e) ≡ true → (left q e < e) × (kind q (left q e) < 8)
-  pub left-expr : (e : ℕ) → e < entriesOf q → leftExpr (kind q e) ≡ true → (left q e < e) × (8 ≤ kind q (left q e))
-  pub right-path : (e : ℕ) → e < entriesOf q → rightPath (kind q e) ≡ true → (right q e < e) × (kind q (right q e) < 8)
-  pub right-expr : (e : ℕ) → e < entriesOf q → rightExpr (kind q e) ≡ true → (right q e < e) × (8 ≤ kind q (right q e))
 
 -- 64 bytes, the first n of them how many tables are kept aside for each entry
 pub record CountsTo (q : List ℕ) (n : ℕ) (r : List ℕ) : Type 0 where

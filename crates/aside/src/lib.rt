@@ -3,7 +3,8 @@
 ghost use mathlib.Core.Path.{_≡_};
 ghost use Prim.Native.Nat.{_<_, max};
 ghost use Rattle.model.specs.QueryTable.{entriesOf};
-ghost use Rattle.aside.specs.Aside.{inTurn, asideAt, Shaped, CountsTo, Counts};
+ghost use Rattle.model.specs.Accepted.{Shaped};
+ghost use Rattle.aside.specs.Aside.{inTurn, asideAt, CountsTo, Counts};
 
 // The tables aside for two operands that are evaluated in turn, both of them tables.
 fn in_turn(a: u8, b: u8) -> u8

@@ -3,7 +3,7 @@ use Prim.Native.Nat.{ℕ, _<_, _≤_}
 use native.Mathlib.Omega.{arith}
 use mathlib.Core.Path.{_≡_, refl, sym, ap, _∙_}
 use mathlib.Core.Bool.{Bool, true, false, not, cond}
-use mathlib.Core.List.{List, [], _∷_, _++_}
+use mathlib.Core.List.{List, [], _∷_, _++_, append-assoc}
 use lib.Dec.{eqb}
 use lib.ListN.{length, take}
 use lib.Seq.{length-take-le}
@@ -14,7 +14,7 @@ use Rattle.model.specs.Tree.{sizeOf}
 use Rattle.model.specs.Refusals.{Check, lowest, verdict, reply}
 use Rattle.model.specs.Checks.{badNode, treeChecks, queryChecks, nodeChecks, cursorChecks, setChecks, roomChecks, tableChecks}
 use Rattle.model.specs.Pages.{rowOf, hasBegun}
-use Rattle.model.proofs.Refusals.{Passes-front, numbered, accepted, stop-at, pass-at}
+use Rattle.model.proofs.Refusals.{Passes-front, numbered, accepted, stop-at, pass-at, stop-all, pass-all}
 use Rattle.model.proofs.Accepted.{tree-ordered, columns-most, tree-numbered, query-numbered}
 
 -- a verdict of 0, from the reply that equals it
@@ -35,11 +35,30 @@ pub cursor-numbered : (t : List ℕ) (columns : ℕ) (c : Cursor) → numbered (
 unfolding cursorChecks numbered
 cursor-numbered t columns c = refl
 
+pub listing-numbered : (t q : List ℕ) (columns : ℕ) → numbered (treeChecks t ++ queryChecks q 1 columns) ≡ true
+unfolding numbered treeChecks queryChecks
+listing-numbered t q columns = refl
+
+-- A verdict over two lists, as the front of one over three.
+
+module _ (a b c : List Check) (r : Reply) (p : r ≡ verdict (a ++ b)) where
+  pub stop-both : (r .number ≡ 0 → ⊥) → r ≡ verdict (a ++ (b ++ c))
+  stop-both z = stop-all (a ++ b) c r p z ∙ ap verdict (append-assoc a b c)
+
+  pub pass-both : (s : Reply) → s ≡ verdict c → r .number ≡ 0 → numbered (a ++ b) ≡ true → s ≡ verdict (a ++ (b ++ c))
+  pass-both s q z n = pass-all (a ++ b) c r s q p z n ∙ ap verdict (append-assoc a b c)
+
 -- What earlier checks give the later ones.
 
 -- an accepted query has at most three variables
 pub columns-few : (q : List ℕ) (least columns : ℕ) (r : Reply) → r ≡ verdict (queryChecks q least columns) → r .number ≡ 0 → columns ≤ 3
 columns-few q least columns r p z = columns-most q least columns (accepted (queryChecks q least columns) (query-numbered q least columns) (zero-of (queryChecks q least columns) r p z))
+
+-- the same of an accepted listing
+pub listing-few : (t q : List ℕ) (columns : ℕ) (r : Reply) → r ≡ verdict (treeChecks t ++ queryChecks q 1 columns) → r .number ≡ 0 → columns ≤ 3
+listing-few t q columns r p z =
+    let v = Passes-front (treeChecks t) (queryChecks q 1 columns) (tree-numbered t) (zero-of (treeChecks t ++ queryChecks q 1 columns) r p z) in
+    columns-few q 1 columns (verdict (queryChecks q 1 columns)) refl (v .1)
 
 -- an accepted tree has at most 256 nodes
 pub tables-fit : (t q nodes : List ℕ) (columns : ℕ) (r : Reply) → r ≡ verdict (tableChecks t q columns nodes) → r .number ≡ 0 → sizeOf t ≤ 256

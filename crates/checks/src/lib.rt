@@ -2,12 +2,13 @@
 // it is linear in what is lent.
 ghost use mathlib.Core.Path.{_≡_};
 ghost use mathlib.Core.Bool.{cond};
+ghost use mathlib.Core.List.{_++_};
 ghost use Prim.Native.Nat.{_*_, _≤_, _<_};
 ghost use lib.ListN.{length};
 ghost use Rattle.model.specs.Sets.{any};
 ghost use Rattle.model.specs.Tree.{sizeOf};
 ghost use Rattle.model.specs.Refusals.{lowest, verdict};
-ghost use Rattle.model.specs.Checks.{badNode, badByte, nodeChecks, cursorChecks, setChecks, roomChecks, tableChecks, imageChecks, pairsChecks, pageChecks};
+ghost use Rattle.model.specs.Checks.{badNode, badByte, treeChecks, queryChecks, nodeChecks, cursorChecks, setChecks, roomChecks, tableChecks, imageChecks, pairsChecks, pageChecks};
 
 // What is lent beside the tables.
 
@@ -210,6 +211,34 @@ pub fn check_pairs(
     check_room(room, square(tree.len() / 2))
 }
 
+// The checks 5 to 15 of a page: the tree and the query.
+pub fn check_listing(tree: &[u16], query: &[u16], columns: usize) -> model::Reply
+    ensures { λ r. ⌜ r ≡ verdict (treeChecks (now (tree .entry)) ++ queryChecks (now (query .entry)) 1 columns) ⌝ }
+{
+    let t = tree::check_tree(tree);
+    if t.number != 0 {
+        return t;
+    }
+    query::check_query_for(query, 1, columns)
+}
+
+// The checks 17 and 20 of a page, for a buffer of so many numbers.
+pub fn check_paging(
+    tree: &[u16],
+    columns: usize,
+    cursor: model::Cursor,
+    room: usize,
+) -> model::Reply
+    requires { ⌜ columns ≤ 3 ⌝ }
+    ensures { λ r. ⌜ r ≡ verdict (cursorChecks (now (tree .entry)) columns cursor ++ roomChecks room columns) ⌝ }
+{
+    let c = check_cursor(tree, columns, cursor);
+    if c.number != 0 {
+        return c;
+    }
+    check_room(room, columns)
+}
+
 // The checks 5 to 15, 17 and 20 of a page, for a buffer of so many numbers.
 pub fn check_page(
     tree: &[u16],
@@ -220,17 +249,9 @@ pub fn check_page(
 ) -> model::Reply
     ensures { λ r. ⌜ r ≡ verdict (pageChecks (now (tree .entry)) (now (query .entry)) columns cursor room) ⌝ }
 {
-    let t = tree::check_tree(tree);
-    if t.number != 0 {
-        return t;
+    let v = check_listing(tree, query, columns);
+    if v.number != 0 {
+        return v;
     }
-    let q = query::check_query_for(query, 1, columns);
-    if q.number != 0 {
-        return q;
-    }
-    let c = check_cursor(tree, columns, cursor);
-    if c.number != 0 {
-        return c;
-    }
-    check_room(room, columns)
+    check_paging(tree, columns, cursor, room)
 }

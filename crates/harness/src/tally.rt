@@ -4,6 +4,9 @@ use super::table;
 // The replies by their number (0 to 36), and the sums below.
 pub type Tally = [u64; 64];
 
+// The kinds of the entries at which random queries break the rule of quick pages: bit k for kind k.
+pub const BREAKING: usize = 39;
+
 // The line of the input, and how many comparisons there were and failed, in all and in this part.
 const LINE: usize = 40;
 
@@ -55,6 +58,12 @@ pub const LEFT_OUT: usize = 59;
 pub const DEEP: usize = 60;
 
 pub const MIXED: usize = 61;
+
+// How many evaluations quick pages made, and how many lists with gaps were of two variables or more and of a query that keeps the
+// rule of quick pages.
+pub const EVALUATIONS: usize = 62;
+
+pub const KEPT: usize = 63;
 
 pub fn add(tally: &mut Tally, at: usize, more: u64) {
     if at < 64 {
@@ -233,6 +242,14 @@ pub fn expect_mixed(tally: &mut Tally, some: usize, of: usize) {
     expect_share(tally, MIXED, whole, some, of);
 }
 
+// Of the lists no fewer than some of so many had gaps, and were of two variables or more and of a query that keeps the rule of
+// quick pages; and others broke it by each kind that can: 1, 3, 4, 5, 9 and 10.
+pub fn expect_kept(tally: &mut Tally, some: usize, of: usize) {
+    let whole = lists(tally);
+    expect_share(tally, KEPT, whole as u64, some, of);
+    expect(tally, sum_at(tally, BREAKING) == 1594);
+}
+
 // The line for the part that ends here.
 fn show_part(tally: &mut Tally) {
     show_number(sum_at(tally, COMPARED_HERE), b" compared, ");
@@ -294,6 +311,12 @@ pub fn show_all(tally: &Tally) {
     show_found(tally, GAPS, b"lists with gaps: ");
     show_found(tally, EMPTY, b"lists of no row: ");
     show_found(tally, FULL, b"lists of every row: ");
+    show_found(
+        tally,
+        KEPT,
+        b"lists with gaps, of two variables or more, within the rule: ",
+    );
+    show_found(tally, EVALUATIONS, b"evaluations of quick pages: ");
     show_found(tally, BROKEN, b"damaged indexes refused: ");
     show_found(tally, UNSEEN, b"damaged indexes not refused: ");
     show_found(tally, CHANGED, b"of these with another answer: ");

@@ -16,7 +16,7 @@ use Rattle.model.specs.Axes.{self, ancestor, descendant, following, prec
 use Rattle.model.specs.QueryTable.{entriesOf, kind, left, right, tag, entry, lastOf}
 use Rattle.model.specs.Refusals.{verdict}
 use Rattle.model.specs.Checks.{badParent, badTag, treeChecks, leftPath, leftExpr, rightPath, rightExpr, namesVariable, hasLeft, hasRight, badStep, badVariable, badUnnamed, badEntry, queryChecks}
-use Rattle.model.specs.Accepted.{Falling, Sound, Ordered, Evaluable}
+use Rattle.model.specs.Accepted.{Falling, Sound, Ordered, Shaped, Evaluable}
 use Rattle.model.proofs.Booleans.{Seen, seen, no-yes, both-yes, or-left, or-right, or-cases, not-yes, no-or, guarded}
 use Rattle.model.proofs.Booleans.Seen.{yes!, no! }
 use Rattle.model.proofs.Exists.{none-of}
@@ -153,15 +153,32 @@ module _ (q : List ℕ) (least columns : ℕ) (b : Passes (queryChecks q least c
     right-sort : ((rightPath (kind q e) && not (ltb (kind q (right q e)) 8)) ≡ false) × ((rightExpr (kind q e) && ltb (kind q (right q e)) 8) ≡ false)
     right-sort = no-or (rightPath (kind q e) && not (ltb (kind q (right q e)) 8)) (rightExpr (kind q e) && ltb (kind q (right q e)) 8) (sorts .1)
 
-  -- an accepted query can be evaluated under any assignment to nodes
-  pub query-evaluable : (t nodes : List ℕ) → length nodes ≡ columns → ((k : ℕ) → k < length nodes → getD nodes k 0 < sizeOf t) → Evaluable t q nodes
-  query-evaluable t nodes many held = record {
+  few-entries : entriesOf q ≤ 64
+  unfolding queryChecks Passes
+  few-entries =
+      let (some, four, most) = length-fits 4 256 (length q) (b .0) in
+      omega arith
+
+  -- an accepted query has the shape
+  pub query-shaped : Shaped q
+  query-shaped = record {
+    few = few-entries;
     known = known-at;
-    axis = axis-at;
     left-path = λ e l p. (left-at e l (or-left (leftPath (kind q e)) (leftExpr (kind q e)) p), below (leftPath (kind q e)) (kind q (left q e)) 8 (left-sort e l .0) p);
     left-expr = λ e l p. (left-at e l (or-right (leftPath (kind q e)) (leftExpr (kind q e)) p), above (leftExpr (kind q e)) (kind q (left q e)) 8 (left-sort e l .1) p);
     right-path = λ e l p. (right-at e l (or-left (rightPath (kind q e)) (rightExpr (kind q e)) p), below (rightPath (kind q e)) (kind q (right q e)) 8 (right-sort e l .0) p);
     right-expr = λ e l p. (right-at e l (or-right (rightPath (kind q e)) (rightExpr (kind q e)) p), above (rightExpr (kind q e)) (kind q (right q e)) 8 (right-sort e l .1) p);
+  }
+
+  -- and can be evaluated under any assignment to nodes
+  pub query-evaluable : (t nodes : List ℕ) → length nodes ≡ columns → ((k : ℕ) → k < length nodes → getD nodes k 0 < sizeOf t) → Evaluable t q nodes
+  query-evaluable t nodes many held = record {
+    known = known-at;
+    axis = axis-at;
+    left-path = query-shaped .left-path;
+    left-expr = query-shaped .left-expr;
+    right-path = query-shaped .right-path;
+    right-expr = query-shaped .right-expr;
     variable = λ e l p. rw many (variable-at e l p);
     node = held;
   }

@@ -7,8 +7,13 @@ pub mod Refusals
 pub mod Axes
 pub mod Meaning
 pub mod QueryTable
+pub mod Shaped
 pub mod Encoding
 pub mod Accepted
+pub mod Sharing
+pub mod Exactness
+pub mod Rule
+pub mod Quick
 pub mod Made
 pub mod Answers
 pub mod Results

@@ -18,10 +18,10 @@ use Rattle.model.specs.Meaning.{pairsOver}
 use Rattle.model.specs.QueryTable.{entriesOf, kind, tag, entry, pathAt, lastOf}
 use Rattle.model.specs.Results.{assigned, related, cell}
 use Rattle.model.specs.Answers.{Row, keep, allRows, answers}
-use Rattle.model.specs.Pages.{Outcome, paged, unpaged}
+use Rattle.model.specs.Pages.{Outcome}
 use Rattle.model.specs.Refusals.{Check, refuseAt, counting, verdict, written}
 use Rattle.model.specs.Checks.{badVariable, badUnnamed, treeChecks, queryChecks, nodeChecks, cursorChecks, setChecks, roomChecks}
-use Rattle.model.specs.Services.{imageReply, imageBuffer, pairsReply, pairsBuffer, pageOutcome}
+use Rattle.model.specs.Services.{imageReply, imageBuffer, pairsReply, pairsBuffer, judged, pageOutcome}
 
 -- The rules that moved, as they were.
 
@@ -144,9 +144,7 @@ module _ (i : Inputs) where
         imageLeft = λ columns nodes back from to. written (imageVerdictOver columns nodes from to) (imageOver nodes back from) to;
         pairs = pairsVerdictOver;
         pairsLeft = λ columns nodes table. written (pairsVerdictOver columns nodes table) (tab (nodesIn * nodesIn) (cell nodesIn (i .relation nodes false))) table;
-        page = λ columns c buffer.
-            cond (eqb (pageVerdictOver columns c buffer .number) 0) (paged columns (answersOver columns) c buffer)
-            (unpaged (pageVerdictOver columns c buffer) c buffer);
+        page = λ columns c buffer. judged (pageVerdictOver columns c buffer) columns (answersOver columns) c buffer;
         job = λ columns. i .tree ++ i .query 1 columns;
         listed = answersOver;
       }

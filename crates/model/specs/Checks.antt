@@ -1,4 +1,5 @@
--- The refusals 5 to 20 of document 01, in checking order. Each check runs over its whole object before the next begins.
+-- The refusals 5 to 20 of document 01, and the place of 29 among them, in checking order. Each check runs over its whole object before
+-- the next begins.
 use Prim.Native.Nat.{ℕ, zero, suc, _+_, _-_, _*_, _%_}
 use mathlib.Core.Bool.{Bool, not, _&&_, _||_, cond}
 use mathlib.Core.List.{List, [], _∷_, _++_}
@@ -12,6 +13,7 @@ use Rattle.model.specs.Axes.{isDocument, descendantOrSelf}
 use Rattle.model.specs.QueryTable.{entriesOf, kind, left, right, entry, lastOf}
 use Rattle.model.specs.Pages.{rowOf, hasBegun}
 use Rattle.model.specs.Refusals.{Check, refuse, refuseHere, refuseAt}
+use Rattle.model.specs.Sharing.{sharingChecks}
 
 -- The tree table.
 
@@ -204,3 +206,8 @@ pairsChecks t q columns nodes room = tableChecks t q columns nodes ++ roomChecks
 -- a page: 5 to 15, 17 and 20, for a buffer of so many numbers
 unfoldable pub pageChecks : List ℕ → List ℕ → ℕ → Cursor → ℕ → List Check
 pageChecks t q columns c room = treeChecks t ++ (queryChecks q 1 columns ++ (cursorChecks t columns c ++ roomChecks room columns))
+
+-- a quick page (document 02, §7): the same, and 29 between 15 and 17
+unfoldable pub quickChecks : List ℕ → List ℕ → ℕ → Cursor → ℕ → List Check
+quickChecks t q columns c room =
+    treeChecks t ++ (queryChecks q 1 columns ++ (sharingChecks q ++ (cursorChecks t columns c ++ roomChecks room columns)))

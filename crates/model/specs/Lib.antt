@@ -9,6 +9,7 @@ pub mod Results
 pub mod Answers
 pub mod Pages
 pub mod Refusals
+pub mod Sharing
 pub mod Checks
 pub mod Encoding
 pub mod Services

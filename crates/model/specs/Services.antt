@@ -12,10 +12,10 @@ use Rattle.model.specs.declared.PageReply.{PageReply}
 use Rattle.model.specs.declared.Cursor.{Cursor}
 use Rattle.model.specs.Sets.{ones}
 use Rattle.model.specs.Results.{imageBytes, pairsBytes}
-use Rattle.model.specs.Answers.{answers}
+use Rattle.model.specs.Answers.{Row, answers}
 use Rattle.model.specs.Pages.{Outcome, paged, unpaged}
 use Rattle.model.specs.Refusals.{counting, verdict, written}
-use Rattle.model.specs.Checks.{imageChecks, pairsChecks, pageChecks}
+use Rattle.model.specs.Checks.{imageChecks, pairsChecks, pageChecks, quickChecks}
 
 -- the verdict of forwards and of backwards: on a tree, a query, its number of variables and their nodes, a set, and the buffer
 abbrev pub imageVerdict : List ℕ → List ℕ → ℕ → List ℕ → List ℕ → List ℕ → Reply
@@ -49,12 +49,20 @@ abbrev pub PairsLeave : List ℕ → List ℕ → ℕ → List ℕ → List ℕ 
 PairsLeave t q columns nodes table r after =
     (r ≡ pairsReply t q columns nodes table) × (after ≡ pairsBuffer t q columns nodes table)
 
+-- the outcome of a page call with a verdict, over answers for k variables, that is lent a cursor and a buffer
+abbrev pub judged : Reply → ℕ → List Row → Cursor → List ℕ → Outcome
+judged v k rows c buffer = cond (eqb (v .number) 0) (paged k rows c buffer) (unpaged v c buffer)
+
 -- the outcome of a page call that is lent a tree, a query, a number of variables, a cursor and a buffer
 unfoldable pub pageOutcome : List ℕ → List ℕ → ℕ → Cursor → List ℕ → Outcome
 pageOutcome t q columns c buffer =
-    cond (eqb (verdict (pageChecks t q columns c (length buffer)) .number) 0)
-    (paged columns (answers t q columns) c buffer)
-    (unpaged (verdict (pageChecks t q columns c (length buffer))) c buffer)
+    judged (verdict (pageChecks t q columns c (length buffer))) columns (answers t q columns) c buffer
+
+-- the outcome of a quick page call (document 02, §7): of a query that keeps the rule, that of a page call (proofs/Quick.antt:
+-- rule-plain)
+unfoldable pub quickOutcome : List ℕ → List ℕ → ℕ → Cursor → List ℕ → Outcome
+quickOutcome t q columns c buffer =
+    judged (verdict (quickChecks t q columns c (length buffer))) columns (answers t q columns) c buffer
 
 -- the reply of an outcome
 abbrev pub pageReply : Outcome → PageReply

@@ -29,6 +29,17 @@ pub struct PageReply {
     pub more: bool,
 }
 
+// The reply to a quick page call: that of a page call, and how many evaluations of the query it took (document 02, §7); 0 of a
+// refused call.
+#[repr(C)]
+pub struct QuickReply {
+    pub number: u16,
+    pub place: u16,
+    pub count: usize,
+    pub more: bool,
+    pub evaluations: usize,
+}
+
 // The reply to the reading of a typed query: number and place, how many numbers its table has, and how many variables
 // (document 02: columns).
 #[repr(C)]

@@ -70,7 +70,8 @@ fn after_page(at: Position, page: answers::Paged) -> Position
     }
 }
 
-// The rows of a page, by way of a buffer that has room for as many as their lines have. One page of answers.
+// The rows of a page, by way of a buffer that has room for as many as their lines have. One page of answers, by the quick way where the
+// query keeps its rule.
 fn page_piece(
     tree: &[u16],
     query: &[u16],
@@ -86,7 +87,7 @@ fn page_piece(
         r (now (out .exit))
         ⌝ }
 {
-    let page = answers::page_from(tree, query, columns, at.cursor, rows);
+    let page = quick::page_either(tree, query, columns, at.cursor, rows);
     let reply = page.reply;
     if reply.number != 0 {
         return refused_piece(

@@ -72,7 +72,7 @@ fn right_expr(k: usize) -> bool
 }
 
 // The left field is the number of a variable.
-fn names_variable(k: usize) -> bool
+pub fn names_variable(k: usize) -> bool
     ensures { λ r. ⌜ r ≡ namesVariable k ⌝ }
 {
     (k == 6) | (k == 12)

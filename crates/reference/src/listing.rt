@@ -26,7 +26,7 @@ fn rows_over(n: usize, columns: usize) -> Space {
 }
 
 // Node j of a row.
-fn node(s: Space, row: usize, j: usize) -> usize {
+pub fn node(s: Space, row: usize, j: usize) -> usize {
     let n = s.n;
     let columns = s.columns;
     if n == 0 {
@@ -93,7 +93,7 @@ pub fn list(
     }
 }
 
-fn is_marked(marks: &table::Cells, row: usize) -> bool {
+pub fn is_marked(marks: &table::Cells, row: usize) -> bool {
     table::byte_at(marks, row) == 1
 }
 

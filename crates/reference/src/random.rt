@@ -158,7 +158,7 @@ pub fn left(kind: usize) -> u8 {
     0
 }
 
-fn right(kind: usize) -> u8 {
+pub fn right(kind: usize) -> u8 {
     if kind < 13 {
         return RIGHT[kind];
     }
@@ -331,18 +331,28 @@ fn columns(seed: &mut u64, line: &line::Line) -> usize {
     between(seed, line::number(line, 2, 0), line::number(line, 2, 1))
 }
 
-// Makes the tree and the query that a line asks for, LEAST MOST ENTRIES, and answers how many variables the query may use.
+// How many of so many variables a query names: none where it is bare.
+fn named(variables: usize, bare: bool) -> usize {
+    if bare {
+        return 0;
+    }
+    variables
+}
+
+// Makes the tree and the query that a line asks for, LEAST MOST ENTRIES, and answers how many variables the query may use; it names
+// none of them yet where it is to be bare.
 pub fn make_both(
     seed: &mut u64,
     line: &line::Line,
     tree: &mut table::Table,
     query: &mut table::Table,
+    bare: bool,
 ) -> usize {
     let n = between(seed, line::number(line, 1, 0), line::number(line, 1, 1));
     let grown = between(seed, 1, line::number(line, 1, 2));
     let variables = columns(seed, line);
     make_tree(seed, tree, n);
     maybe_document(seed, tree);
-    make_query(seed, query, grown, variables);
+    make_query(seed, query, grown, named(variables, bare));
     variables
 }

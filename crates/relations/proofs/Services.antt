@@ -14,13 +14,14 @@ use Rattle.model.specs.Results.{related}
 use Rattle.model.specs.Refusals.{verdict, written}
 use Rattle.model.specs.Checks.{treeChecks, queryChecks, nodeChecks, tableChecks, roomChecks}
 use Rattle.model.proofs.Refusals.{Passes, numbered, accepted, Passes-front, all-pass, written-over}
-use Rattle.model.proofs.Accepted.{tree-numbered, query-numbered}
+use Rattle.model.proofs.Accepted.{query-shaped, tree-numbered, query-numbered}
 use Rattle.checks.proofs.Verdicts.{zero-of, tables-numbered}
 use Rattle.tree.specs.Links.{PreviousSiblings}
 use Rattle.images.specs.Tables.{Tables}
 use Rattle.images.proofs.Accepted.{front}
-use Rattle.aside.specs.Aside.{Shaped, Counts, asideAt}
-use Rattle.aside.proofs.Accepted.{accepted-shaped, accepted-five}
+use Rattle.model.specs.Accepted.{Shaped}
+use Rattle.aside.specs.Aside.{Counts, asideAt}
+use Rattle.aside.proofs.Accepted.{accepted-five}
 use Rattle.bits.specs.Words.{words}
 use Rattle.bits.specs.BitTables.{bitCell, bitTable}
 use Rattle.bits.specs.Rows.{Becomes}
@@ -71,7 +72,7 @@ module _ (t q nodes : List ℕ) (columns room : ℕ) (r : Reply) (p : r ≡ verd
   pairs-accepted =
       let h = front t q nodes columns (roomChecks room (4 * sizeOf t)) (zero-of (bitPairsChecks t q columns nodes room) r p z) in
       let w = accepted (roomChecks room (4 * sizeOf t)) refl (h .1) in
-      (h .0, (accepted-shaped q 0 columns query-passes, (accepted-five q 0 columns query-passes, ltb-false room (4 * sizeOf t) (w .0))))
+      (h .0, (query-shaped q 0 columns query-passes, (accepted-five q 0 columns query-passes, ltb-false room (4 * sizeOf t) (w .0))))
 
 pub pairs-over : (t q nodes to after : List ℕ) (r v : Reply) → after ≡ pairsWords t q nodes ++ drop (4 * sizeOf t) to → r ≡ v → r .number ≡ 0 → after ≡ written v (pairsWords t q nodes) to
 unfolding pairsWords bitTable

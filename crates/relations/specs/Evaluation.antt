@@ -10,7 +10,8 @@ use Rattle.model.specs.Tree.{sizeOf}
 use Rattle.model.specs.QueryTable.{kind, left, right}
 use Rattle.model.specs.Results.{related}
 use Rattle.eval.specs.Evaluation.{Ready, OfKind, passing}
-use Rattle.aside.specs.Aside.{asideAt, Shaped, Counts}
+use Rattle.model.specs.Accepted.{Shaped}
+use Rattle.aside.specs.Aside.{asideAt, Counts}
 use Rattle.bits.specs.Words.{words}
 use Rattle.bits.specs.BitTables.{bitRelation}
 use Rattle.bits.specs.Rows.{within, composed}

@@ -6,7 +6,8 @@ ghost use lib.ListN.{length, drop};
 ghost use Rattle.model.specs.Tree.{sizeOf};
 ghost use Rattle.model.specs.QueryTable.{lastOf};
 ghost use Rattle.images.specs.Tables.{Tables};
-ghost use Rattle.aside.specs.Aside.{Shaped, asideAt};
+ghost use Rattle.model.specs.Accepted.{Shaped};
+ghost use Rattle.aside.specs.Aside.{asideAt};
 ghost use Rattle.relations.specs.Services.{pairsWords};
 
 // How many tables may stand aside: as many as the query needs, and two at least, so that a set operation in a run of steps, or a filter

@@ -6,6 +6,7 @@ ghost use Rattle.model.specs.Refusals.{verdict};
 ghost use Rattle.model.specs.Checks.{treeChecks, queryChecks};
 ghost use Rattle.model.specs.Services.{ImageLeaves, PairsLeave};
 ghost use Rattle.model.specs.Services.{pageOutcome, PageLeaves};
+ghost use Rattle.quick.specs.Service.{QuickLeaves};
 ghost use Rattle.relations.specs.Services.{BitPairsLeave};
 ghost use Rattle.packing.specs.Services.{PackLeaves, UnpackLeaves};
 ghost use Rattle.index.specs.Index.{IndexLeaves};
@@ -139,6 +140,27 @@ pub extern "C" fn gz_page(
         ⌝ }
 {
     answers::page(tree, query, columns as usize, cursor, rows)
+}
+
+// The same page, found variable by variable; 29 where the query breaks the rule that this takes. The cursor is taken apart here, since
+// `quick` pages by value.
+#[no_mangle]
+pub extern "C" fn gz_quick_page(
+    tree: &[u16],
+    query: &[u16],
+    columns: u16,
+    cursor: &mut model::Cursor,
+    rows: &mut [u16],
+) -> model::QuickReply
+    ensures { λ r.
+        ⌜
+        QuickLeaves (now (tree .entry)) (now (query .entry)) columns (now (cursor .entry)) (now (rows .entry))
+        r (now (cursor .exit)) (now (rows .exit))
+        ⌝ }
+{
+    let p = quick::page_from(tree, query, columns as usize, *cursor, rows);
+    *cursor = p.cursor;
+    p.reply
 }
 
 // The index of a tree, and the list of its tags.

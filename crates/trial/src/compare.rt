@@ -125,7 +125,7 @@ pub fn run(
     let mut tree = [0u16; 1025];
     let mut query = [0u16; 1025];
     let mut nodes = [0u16; 1025];
-    let columns = random::make_both(seed, line, &mut tree, &mut query);
+    let columns = random::make_both(seed, line, &mut tree, &mut query, false);
     random::make_nodes(seed, &mut nodes, columns, table::size(&tree));
     evaluator::fill(pairs, &tree, &query, &nodes);
     compare_images(tally, seed, &tree, &query, &nodes, pairs);

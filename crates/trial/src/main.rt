@@ -6,6 +6,7 @@ mod compare;
 mod conversions;
 mod deep;
 mod indexes;
+mod kept;
 mod lookups;
 mod pages;
 mod paging;

@@ -1,20 +1,21 @@
-// The answers of random queries, page by page. The room changes from call to call, refused calls come between, and the cursor is
-// changed where a page does not read it.
+// The answers of random queries, page by page, each page in every way. The room changes from call to call, refused calls come
+// between, and the cursor is changed where a page does not read it.
 use super::pages;
 use harness::line;
 use harness::table;
 use harness::tally;
 use reference::damage;
+use reference::effort;
 use reference::evaluator;
 use reference::listing;
 use reference::random;
 use reference::steer;
 
 // Where paging stands: the cursor, the row from which it goes on, and whether there is more.
-struct Position {
-    cursor: model::Cursor,
-    next: usize,
-    more: bool,
+pub struct Position {
+    pub cursor: model::Cursor,
+    pub next: usize,
+    pub more: bool,
 }
 
 // A call that is refused; it leaves the cursor and the buffer as they were.
@@ -31,16 +32,23 @@ fn refuse(
     let mut other_query = *query;
     let f = damage::put(seed, &mut other_tree, &mut other_query, s, cursor);
     let lent = f.cursor;
+    let reply = f.reply;
     let c = pages::Call {
+        way: pages::PLAIN,
         columns: f.columns,
         room: f.room,
-        number: model::wide(f.reply.number),
-        place: model::wide(f.reply.place),
-        count: 0,
-        more: false,
+        due: pages::refusal(reply),
     };
     tally::add(tally, tally::REFUSED, 1);
-    pages::compare(tally, &other_tree, &other_query, c, lent, &due, lent);
+    pages::compare_ways(tally, &other_tree, &other_query, c, lent, &due, lent);
+}
+
+// The row after which a page comes; the number of rows where the cursor is fresh.
+fn row_before(s: listing::Space, cursor: model::Cursor, start: usize) -> usize {
+    if cursor.begun == 0 {
+        return s.count;
+    }
+    std::num::wrapping_sub_usize(start, 1)
 }
 
 // One page, from a row on, with room for so many numbers.
@@ -59,15 +67,19 @@ fn turn(
     tally::add(tally, tally::PAGES, 1);
     tally::add(tally, tally::ROWS, p.count as u64);
     let c = pages::Call {
+        way: pages::PLAIN,
         columns: s.columns,
         room: room,
-        number: 0,
-        place: 0,
-        count: p.count,
-        more: p.more,
+        due: model::QuickReply {
+            number: 0,
+            place: 0,
+            count: p.count,
+            more: p.more,
+            evaluations: effort::of_page(marks, s, row_before(s, cursor, start), p.count),
+        },
     };
     let after = listing::moved(s, cursor, p);
-    let moved = pages::compare(tally, tree, query, c, cursor, &due, after);
+    let moved = pages::compare_ways(tally, tree, query, c, cursor, &due, after);
     Position {
         cursor: moved,
         next: p.next,
@@ -108,7 +120,7 @@ fn step(
 }
 
 // Pages to the end, and one after it.
-fn page_through(
+pub fn page_through(
     tally: &mut tally::Tally,
     seed: &mut u64,
     tree: &table::Table,
@@ -132,6 +144,21 @@ fn page_through(
     }
 }
 
+// The start, with a fresh cursor that holds anything.
+pub fn fresh(seed: &mut u64) -> Position {
+    let any = damage::any_cursor(seed);
+    Position {
+        cursor: model::Cursor {
+            begun: 0,
+            first: any.first,
+            second: any.second,
+            third: any.third,
+        },
+        next: 0,
+        more: true,
+    }
+}
+
 // Pages from the start, with room for up to 1 row, 2 rows, .. and one more than there are answers.
 fn page_through_from_start(
     tally: &mut tally::Tally,
@@ -141,27 +168,17 @@ fn page_through_from_start(
     marks: &table::Cells,
     a: listing::Answers,
 ) {
-    let any = damage::any_cursor(seed);
-    let fresh = Position {
-        cursor: model::Cursor {
-            begun: 0,
-            first: any.first,
-            second: any.second,
-            third: any.third,
-        },
-        next: 0,
-        more: true,
-    };
+    let start = fresh(seed);
     let end = std::num::wrapping_add_usize(a.found, 2);
     let mut most = 1;
     while most < end {
-        page_through(tally, seed, tree, query, marks, a.space, most, fresh);
+        page_through(tally, seed, tree, query, marks, a.space, most, start);
         most += 1;
     }
 }
 
 // Pages from any row, an answer or none.
-fn page_through_from_anywhere(
+pub fn page_through_from_anywhere(
     tally: &mut tally::Tally,
     seed: &mut u64,
     tree: &table::Table,
@@ -190,7 +207,7 @@ pub fn run(
     let mut tree = [0u16; 1025];
     let mut query = [0u16; 1025];
     let mut marks = [0u8; 66560];
-    let a = steer::make(seed, line, &mut tree, &mut query, pairs, &mut marks);
+    let a = steer::make(seed, line, &mut tree, &mut query, pairs, &mut marks, false);
     steer::count(tally, &query, a);
     page_through_from_start(tally, seed, &tree, &query, &marks, a);
     page_through_from_anywhere(tally, seed, &tree, &query, &marks, a);

@@ -4,6 +4,7 @@ use super::compare;
 use super::conversions;
 use super::deep;
 use super::indexes;
+use super::kept;
 use super::lookups;
 use super::pages;
 use super::paging;
@@ -112,11 +113,16 @@ fn run_one(
         conversions::run_random(tally, seed, line);
         return;
     }
+    if letter == b'k' {
+        kept::run(tally, seed, line, pairs);
+        return;
+    }
     paging::run(tally, seed, line, pairs);
 }
 
 // random SEED COUNT | LEAST MOST ENTRIES: so many trees, of LEAST to MOST nodes, and queries from a seed
 // walks SEED COUNT | LEAST MOST ENTRIES | LEAST MOST: as random, with LEAST to MOST variables
+// kept SEED COUNT | LEAST MOST ENTRIES | LEAST MOST: the same, with queries that keep the rule of quick pages
 // searches SEED COUNT | LEAST MOST TIMES: so many trees, of LEAST to MOST nodes, and TIMES searches of every sort in each
 // joined SEED COUNT | LEAST MOST | LEAST MOST: so many trees, of LEAST to MOST nodes, and deep queries of LEAST to MOST leaves
 // matrices SEED COUNT | LEAST MOST: so many tables of the pairs of LEAST to MOST nodes
@@ -144,7 +150,11 @@ fn run_call(
         return;
     }
     if letter == b'a' {
-        pages::run(tally, tree, query, line);
+        pages::run_answers(tally, tree, query, line);
+        return;
+    }
+    if letter == b'e' {
+        pages::run_effort(tally, tree, query, line);
         return;
     }
     if letter == b'i' {
@@ -158,7 +168,12 @@ fn run_call(
 
 // A line that compares on random tables.
 fn is_random(letter: u8) -> bool {
-    (letter == b'r') | (letter == b'w') | (letter == b's') | (letter == b'j') | (letter == b'm')
+    (letter == b'r')
+        | (letter == b'w')
+        | (letter == b's')
+        | (letter == b'j')
+        | (letter == b'm')
+        | (letter == b'k')
 }
 
 // The lines that compare on random tables, and those that say how many of these were of some sort.
@@ -180,6 +195,9 @@ fn run_many(tally: &mut tally::Tally, line: &line::Line, letter: u8) {
     }
     if letter == b'v' {
         tally::expect_mixed(tally, some, of);
+    }
+    if letter == b'h' {
+        tally::expect_kept(tally, some, of);
     }
 }
 

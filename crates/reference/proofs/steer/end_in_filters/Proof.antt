@@ -5,10 +5,10 @@ use Rattle.reference.proofs.steer.end_in_filters.Statement.{statement}
 use Rattle.reference.proofs.steer.end_in_filters.Tie as tie
 
 abbrev Inv-loop : tie.InvT-loop
-Inv-loop seed₀ query₀ columns start i₀ seed query i = Unit {0}
+Inv-loop seed₀ query₀ columns keeps start i₀ seed query i = Unit {0}
 
 abbrev μ-loop : tie.MeasureT-loop
-μ-loop seed₀ query₀ columns start i₀ seed query i = columns - i
+μ-loop seed₀ query₀ columns keeps start i₀ seed query i = columns - i
 
 below-requires : tie.Need-below-requires Inv-loop μ-loop
 below-requires c κs = search needs

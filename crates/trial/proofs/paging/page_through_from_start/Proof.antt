@@ -5,13 +5,13 @@ use Rattle.trial.proofs.paging.page_through_from_start.Statement.{state
 use Rattle.trial.proofs.paging.page_through_from_start.Tie as tie
 
 abbrev Inv-loop : tie.InvT-loop
-Inv-loop tally₀ seed₀ tree query marks a fresh end most₀ tally seed most = Unit {0}
+Inv-loop tally₀ seed₀ tree query marks a start end most₀ tally seed most = Unit {0}
 
 abbrev μ-loop : tie.MeasureT-loop
-μ-loop tally₀ seed₀ tree query marks a fresh end most₀ tally seed most = end - most
+μ-loop tally₀ seed₀ tree query marks a start end most₀ tally seed most = end - most
 
-any-cursor-requires : tie.Need-any-cursor-requires Inv-loop μ-loop
-any-cursor-requires c κs = search needs
+fresh-requires : tie.Need-fresh-requires Inv-loop μ-loop
+fresh-requires c κs = search needs
 
 wrapping-add-usize-requires : tie.Need-wrapping-add-usize-requires Inv-loop μ-loop
 wrapping-add-usize-requires c κs = search needs
@@ -40,7 +40,7 @@ page-through-from-start-spec =
     (tie.spec
     Inv-loop
     μ-loop
-    any-cursor-requires
+    fresh-requires
     wrapping-add-usize-requires
     loop-holds
     page-through-requires

@@ -1,0 +1,10 @@
+pub mod Rows
+pub mod Opened
+pub mod Search
+pub mod Effort
+pub mod Filling
+pub mod Seeking
+pub mod Count
+pub mod Writing
+pub mod Accepted
+pub mod Meets
