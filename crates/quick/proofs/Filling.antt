@@ -10,10 +10,9 @@ use lib.Seq.{getD-take, ext-getD}
 use Rattle.model.specs.Tree.{sizeOf}
 use Rattle.model.specs.Answers.{Row}
 use Rattle.answers.specs.declared.Spot.{Spot}
-use Rattle.answers.specs.Search.{rowAt}
 use Rattle.quick.specs.declared.Found.{Found}
 use Rattle.quick.specs.Effort.{descended}
-use Rattle.quick.specs.Search.{Ready, Answer, Nodes, Same, Before, goesOn, Lowest, Tries, Begins, First}
+use Rattle.quick.specs.Search.{Ready, Answer, Nodes, Same, Before, goesOn, Lowest, Tries, Begins, First, FirstFrom}
 use Rattle.quick.proofs.Rows.{before-step}
 use Rattle.quick.proofs.Opened.{few, long}
 use Rattle.quick.proofs.Search.{set-at, set-off, set-nodes, lowest-least, lowest-begins, levels-more, levels-few}
@@ -115,6 +114,6 @@ module _ {t prev q : List ℕ} {k : ℕ} (ok : Ready t prev q k) (i spent : ℕ)
         }
 
     pub filled-whole : k ≤ j → (r : Found) → r ≡ record { spot = record { there = true; row = at }; evaluations = e }
-        → First t q k i row (r .spot) × ((r .evaluations ≤ spent + 3 * sizeOf t) × (r .evaluations ≡ spent + descended (drop i (rowAt k (r .spot)))))
+        → FirstFrom t q k i row spent r
     filled-whole l r p =
         rw p (filling-done ok i row at j (f .filling) l (record { there = true; row = at }) refl, (filled-few, filled-done i j e spent at (f .exact) k (f .filling .within) l))

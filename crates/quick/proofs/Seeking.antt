@@ -9,12 +9,12 @@ use lib.Seq.{getD-take}
 use Rattle.model.specs.Tree.{sizeOf}
 use Rattle.model.specs.declared.Cursor.{Cursor}
 use Rattle.model.specs.Answers.{less, keep, answers}
-use Rattle.model.specs.Pages.{hasBegun, after}
+use Rattle.model.specs.Pages.{hasBegun}
 use Rattle.answers.specs.declared.Spot.{Spot}
 use Rattle.answers.specs.Search.{rowAt, ahead}
 use Rattle.quick.specs.declared.Found.{Found}
-use Rattle.quick.specs.Effort.{climbed, descended, sought, soughtFirst, soughtAfter}
-use Rattle.quick.specs.Search.{Ready, Nodes, goesOn, someAnswer, Lowest, Tries, Begins, First, noAnswer}
+use Rattle.quick.specs.Effort.{climbed, soughtFirst}
+use Rattle.quick.specs.Search.{Ready, Nodes, goesOn, someAnswer, Lowest, Tries, Begins, FirstFrom, Sought, SoughtAfter, noAnswer}
 use Rattle.quick.proofs.Opened.{few, long}
 use Rattle.quick.proofs.Search.{Climbing, climbing-start, climbing-on, climbing-begins, climbing-nodes, climbing-found, climbing-done, counted-down, found-same, found-higher, first-ahead, none-ahead, levels-down, levels-few}
 use Rattle.quick.proofs.Effort.{climbed-start, climbed-on, climbed-found, sought-found, sought-none}
@@ -24,12 +24,6 @@ pub record Seeking (t q : List ℕ) (k : ℕ) (row : List ℕ) (i e : ℕ) : Typ
   pub climbing : Climbing t q k row i
   pub most : e ≤ (k - i) * sizeOf t
   pub spent : e ≡ climbed (sizeOf t) (drop i (take k row))
-
--- what is asked of an answer after the row, found with e evaluations
-abbrev pub Sought : List ℕ → List ℕ → ℕ → List ℕ → Spot → ℕ → Type 0
-Sought t q k row s e =
-    (ahead k (answers t q k) s ≡ keep (less (take k row)) (answers t q k))
-    × ((e ≤ 6 * sizeOf t) × (e ≡ sought (sizeOf t) (take k row) (keep (less (take k row)) (answers t q k))))
 
 module _ {t prev q : List ℕ} {k : ℕ} (ok : Ready t prev q k) (row : List ℕ) (three : length row ≡ 3) where
   pub seeking-start : Seeking t q k row k 0
@@ -66,45 +60,41 @@ module _ {t prev q : List ℕ} {k : ℕ} (ok : Ready t prev q k) (row : List ℕ
         pub seeking-nodes : Nodes (sizeOf t) k (set row (i - 1) v)
         seeking-nodes = climbing-nodes ok row three (i - 1) m down here v w nodes h
 
-        pub seeking-found : (s : Spot) (e₂ : ℕ) → First t q k (i - 1 + 1) (set row (i - 1) v) s → e₂ ≤ e₁ + 3 * sizeOf t → e₂ ≡ e₁ + descended (drop (i - 1 + 1) (rowAt k s)) → Sought t q k row s e₂
-        seeking-found s e₂ f l d =
+        pub seeking-found : (r : Found) → FirstFrom t q k (i - 1 + 1) (set row (i - 1) v) e₁ r → Sought t q k row r
+        seeking-found r (f, (l, d)) =
+            let s : Spot = r .spot in
             let a : ahead k (answers t q k) s ≡ keep (less (take k row)) (answers t q k) = climbing-found ok row three (i - 1) m down here v w s f in
             let b : (rowAt k s ∷ keep (less (rowAt k s)) (answers t q k)) ≡ keep (less (take k row)) (answers t q k) = rw (f .there) at a in (
               a,
               (
                 omega (arith, now .most, levels-down k i (sizeOf t) p (now .climbing .within), levels-few (i - 1) k (sizeOf t) (few ok)),
-                sought-found (sizeOf t) e₂ (take k row) (rowAt k s) (keep (less (rowAt k s)) (answers t q k)) (keep (less (take k row)) (answers t q k))
-                    (climbed-found (sizeOf t) i m e (take k row) (now .spent) p (omega (arith, long ok row three, now .climbing .within)) reads v e₁ e₂ (rowAt k s) (omega (arith, w .low)) (tried .0 h) d
+                sought-found (sizeOf t) (r .evaluations) (take k row) (rowAt k s) (keep (less (rowAt k s)) (answers t q k)) (keep (less (take k row)) (answers t q k))
+                    (climbed-found (sizeOf t) i m e (take k row) (now .spent) p (omega (arith, long ok row three, now .climbing .within)) reads v e₁ (r .evaluations) (rowAt k s) (omega (arith, w .low)) (tried .0 h) d
                     (f .answer .0 ∙ sym (long ok row three)) (found-same ok row three (i - 1) m down here v w s f) (found-higher ok row three (i - 1) m down here v w s f)) b,
               ),
             )
 
   -- all variables are done
-  pub seeking-none : (i e : ℕ) → Seeking t q k row i e → i ≤ 0 → (f : Found) → f ≡ noAnswer row e → Sought t q k row (f .spot) (f .evaluations)
+  pub seeking-none : (i e : ℕ) → Seeking t q k row i e → i ≤ 0 → (f : Found) → f ≡ noAnswer row e → Sought t q k row f
   seeking-none i e now l f p =
       let a : [] ≡ keep (less (take k row)) (answers t q k) = climbing-done ok row three i (now .climbing) l (noAnswer row e .spot) refl in
       rw p (a, (omega (arith, now .most, levels-few i k (sizeOf t) (few ok)), sought-none (sizeOf t) e i (take k row) (keep (less (take k row)) (answers t q k)) (now .spent) l a))
 
 -- The first answer after a cursor.
 
--- what is asked of it, found with e evaluations
-abbrev pub SoughtAfter : List ℕ → List ℕ → ℕ → Cursor → Spot → ℕ → Type 0
-SoughtAfter t q k c s e =
-    (ahead k (answers t q k) s ≡ after k (answers t q k) c)
-    × ((e ≤ 6 * sizeOf t) × (e ≡ soughtAfter (sizeOf t) k c (after k (answers t q k) c)))
-
 module _ {t prev q : List ℕ} {k : ℕ} (ok : Ready t prev q k) (c : Cursor) where
-  pub first-begun : (s : Spot) (e : ℕ) → Sought t q k (c .first ∷ c .second ∷ c .third ∷ []) s e → hasBegun c ≡ true → SoughtAfter t q k c s e
-  first-begun s e w b = rw b w
+  pub first-begun : (r : Found) → Sought t q k (c .first ∷ c .second ∷ c .third ∷ []) r → hasBegun c ≡ true → SoughtAfter t q k c r
+  first-begun r w b = rw b w
 
   module _ (fresh : hasBegun c ≡ false) where
-    pub first-filled : (s : Spot) (e : ℕ) → First t q k 0 (0 ∷ 0 ∷ 0 ∷ []) s → e ≤ 1 + 3 * sizeOf t → e ≡ 1 + descended (drop 0 (rowAt k s)) → SoughtAfter t q k c s e
-    first-filled s e f l d =
+    pub first-filled : (r : Found) → FirstFrom t q k 0 (0 ∷ 0 ∷ 0 ∷ []) 1 r → SoughtAfter t q k c r
+    first-filled r (f, (l, d)) =
+        let s : Spot = r .spot in
         let a : ahead k (answers t q k) s ≡ answers t q k = first-ahead ok (0 ∷ 0 ∷ 0 ∷ []) s f in
         let b : (rowAt k s ∷ keep (less (rowAt k s)) (answers t q k)) ≡ answers t q k = rw (f .there) at a in
         rw fresh (a, (omega (arith, ok .searchable .linked .tree .sound .some-node), d ∙ ap soughtFirst b))
 
-    pub first-none : (b : Bool) → b ≡ someAnswer t q k → b ≡ false → (f : Found) → f ≡ noAnswer (0 ∷ 0 ∷ 0 ∷ []) 1 → SoughtAfter t q k c (f .spot) (f .evaluations)
+    pub first-none : (b : Bool) → b ≡ someAnswer t q k → b ≡ false → (f : Found) → f ≡ noAnswer (0 ∷ 0 ∷ 0 ∷ []) 1 → SoughtAfter t q k c f
     first-none b p h f e =
         let a : [] ≡ answers t q k = none-ahead ok b p h (noAnswer (0 ∷ 0 ∷ 0 ∷ []) 1 .spot) refl in
         rw (e, fresh) (a, (omega (arith, ok .searchable .linked .tree .sound .some-node), ap soughtFirst a))

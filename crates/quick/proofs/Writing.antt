@@ -18,14 +18,14 @@ use Rattle.answers.specs.declared.Spot.{Spot}
 use Rattle.answers.specs.declared.Paged.{Paged}
 use Rattle.answers.specs.Search.{rowAt, pageOf}
 use Rattle.answers.proofs.Writing.{Going, going-start, going-in, going-turn, page-full, page-out}
+use Rattle.quick.specs.declared.Found.{Found}
 use Rattle.quick.specs.declared.Quick.{Quick}
 use Rattle.quick.specs.Effort.{effort}
-use Rattle.quick.specs.Search.{Ready}
-use Rattle.quick.specs.Service.{plainReply, countedOf}
+use Rattle.quick.specs.Search.{Ready, Sought, SoughtAfter}
+use Rattle.quick.specs.Service.{PageWritten, countedOf}
 use Rattle.quick.proofs.Opened.{few}
 use Rattle.quick.proofs.Effort.{effort-more}
 use Rattle.quick.proofs.Count.{answers-few}
-use Rattle.quick.proofs.Seeking.{Sought, SoughtAfter}
 
 -- so many rows stand in the buffer, which was first, and e evaluations found them and the next
 pub record Written (t q : List ℕ) (k : ℕ) (c : Cursor) (first : List ℕ) (at : Spot) (e : ℕ) (last : Cursor) (count : ℕ) (rows : List ℕ) : Type 0 where
@@ -33,16 +33,9 @@ pub record Written (t q : List ℕ) (k : ℕ) (c : Cursor) (first : List ℕ) (a
   pub most : e ≤ 6 * sizeOf t * (count + 1)
   pub exact : e ≡ effort (sizeOf t) k c (after k (answers t q k) c) count
 
--- what is asked of a page
-abbrev pub PageWritten : List ℕ → List ℕ → ℕ → Cursor → List ℕ → Quick → List ℕ → Type 0
-PageWritten t q k c first r rows =
-    PageLeaves (paged k (answers t q k) c first) (plainReply (r .reply)) (r .cursor) rows
-    × ((r .reply .evaluations ≤ 6 * sizeOf t * (r .reply .count + 1))
-    × (r .reply .evaluations ≡ effort (sizeOf t) k c (after k (answers t q k) c) (r .reply .count)))
-
-pub written-start : (t q : List ℕ) (k : ℕ) (c : Cursor) (first : List ℕ) (at : Spot) (e : ℕ) → SoughtAfter t q k c at e → Written t q k c first at e c 0 first
-written-start t q k c first at e w =
-    record { going = going-start k (answers t q k) c first at (w .0) (answers-wide t q k); most = omega (arith, w .1 .0); exact = w .1 .1 }
+pub written-start : (t q : List ℕ) (k : ℕ) (c : Cursor) (first : List ℕ) (r : Found) → SoughtAfter t q k c r → Written t q k c first (r .spot) (r .evaluations) c 0 first
+written-start t q k c first r w =
+    record { going = going-start k (answers t q k) c first (r .spot) (w .0) (answers-wide t q k); most = omega (arith, w .1 .0); exact = w .1 .1 }
 
 module _ {t q : List ℕ} {k : ℕ} {c : Cursor} {first : List ℕ} {at : Spot} {e : ℕ} {last : Cursor} {count : ℕ} {rows : List ℕ} (g : Written t q k c first at e last count rows) where
   -- the row that was found is one of nodes
@@ -59,13 +52,13 @@ module _ {t q : List ℕ} {k : ℕ} {c : Cursor} {first : List ℕ} {at : Spot} 
 
   -- one row more
   pub written-turn : at .there ≡ true → (count ≡ length first / k → ⊥) → (rows₁ : List ℕ) → rows₁ ≡ paste rows (count * k) (at .row) k
-      → (last₁ : Cursor) → last₁ ≡ atRow last (rowAt k at) → (at₁ : Spot) (f : ℕ) → Sought t q k (at .row) at₁ f
-      → Written t q k c first at₁ (e + f) last₁ (count + 1) rows₁
-  written-turn there ne rows₁ er last₁ el at₁ f w =
+      → (last₁ : Cursor) → last₁ ≡ atRow last (rowAt k at) → (r : Found) → Sought t q k (at .row) r
+      → Written t q k c first (r .spot) (e + r .evaluations) last₁ (count + 1) rows₁
+  written-turn there ne rows₁ er last₁ el r w =
       record {
-        going = going-turn (g .going) there ne rows₁ er last₁ el at₁ (w .0);
+        going = going-turn (g .going) there ne rows₁ er last₁ el (r .spot) (w .0);
         most = let z : count + 1 + 1 ≡ suc (count + 1) = omega arith in rw (z, mul-suc (6 * sizeOf t) (count + 1)) (omega (arith, g .most, w .1 .0));
-        exact = effort-more (sizeOf t) k c (answers t q k) at count e f (g .exact) (w .1 .1) (g .going .left) there;
+        exact = effort-more (sizeOf t) k c (answers t q k) at count e (r .evaluations) (g .exact) (w .1 .1) (g .going .left) there;
       }
 
   counted : (more : Bool) (p : Paged) (r : Quick) → r ≡ countedOf p e → p ≡ pageOf count more last → PageLeaves (paged k (answers t q k) c first) (p .reply) (p .cursor) rows → PageWritten t q k c first r rows

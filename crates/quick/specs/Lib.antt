@@ -1,3 +1,3 @@
-pub mod Search
 pub mod Effort
+pub mod Search
 pub mod Service

@@ -1,18 +1,22 @@
 -- How the next answer is found variable by variable: what the inner functions ask for and give.
-use Prim.Native.Nat.{ℕ, suc, _+_, _≤_, _<_}
+use Prim.Native.Nat.{ℕ, suc, _+_, _*_, _≤_, _<_}
 use mathlib.Core.Path.{_≡_}
 use mathlib.Core.Bool.{Bool, true, false}
 use mathlib.Core.List.{List, [], _∷_}
-use lib.ListN.{length, take, getD, set}
+use lib.ListN.{length, take, drop, getD, set}
+use Rattle.model.specs.declared.Cursor.{Cursor}
 use Rattle.model.specs.Tree.{sizeOf, treeOf}
 use Rattle.model.specs.QueryTable.{pathAt, lastOf}
 use Rattle.model.specs.Results.{assigned}
-use Rattle.model.specs.Answers.{Row, satisfied}
+use Rattle.model.specs.Answers.{Row, less, keep, satisfied, answers}
+use Rattle.model.specs.Pages.{after}
 use Rattle.model.specs.Accepted.{Below, Shaped}
 use Rattle.model.specs.Sharing.{Unshared, opened, unfilled, hasPair}
 use Rattle.answers.specs.declared.Spot.{Spot}
-use Rattle.answers.specs.Search.{rowAt, Searchable}
+use Rattle.answers.specs.Search.{rowAt, ahead, Searchable}
+use Rattle.quick.specs.declared.Tried.{Tried}
 use Rattle.quick.specs.declared.Found.{Found}
+use Rattle.quick.specs.Effort.{descended, sought, soughtAfter}
 
 -- a query of k variables that keeps the rule, over a tree with its links
 pub record Ready (t prev q : List ℕ) (k : ℕ) : Type 0 where
@@ -69,6 +73,11 @@ pub record Lowest (f : ℕ → Bool) (from n v : ℕ) : Type 0 where
 abbrev pub Tries : ℕ → ℕ → ℕ → ℕ → ℕ → Type 0
 Tries from n v before evaluations = (v < n → evaluations + from ≡ before + suc v) × (n ≤ v → evaluations + from ≡ before + n)
 
+-- what is asked of a number that is sought from one on among those below n, by a test f, after so many evaluations
+abbrev pub Seeks : (ℕ → Bool) → ℕ → ℕ → ℕ → Tried → Type 0
+Seeks f from n spent r =
+    Lowest f from n (r .number) × ((r .evaluations ≤ spent + n) × Tries from n (r .number) spent (r .evaluations))
+
 -- some answer begins as the first i numbers of the row
 pub record Begins (t q : List ℕ) (k i : ℕ) (row : List ℕ) : Type 0 where
   pub one : Row
@@ -81,6 +90,25 @@ pub record First (t q : List ℕ) (k i : ℕ) (row : List ℕ) (s : Spot) : Type
   pub answer : Answer t q k (rowAt k s)
   pub same : Same i (s .row) row
   pub first : (x : Row) → Answer t q k x → Same i x row → Before k x (s .row) → ⊥
+
+-- what is asked of the first answer that begins as the first i numbers of the row, after so many evaluations
+abbrev pub FirstFrom : List ℕ → List ℕ → ℕ → ℕ → List ℕ → ℕ → Found → Type 0
+FirstFrom t q k i row spent r =
+    First t q k i row (r .spot)
+    × ((r .evaluations ≤ spent + 3 * sizeOf t) × (r .evaluations ≡ spent + descended (drop i (rowAt k (r .spot)))))
+
+-- what is asked of the first answer after a row
+abbrev pub Sought : List ℕ → List ℕ → ℕ → List ℕ → Found → Type 0
+Sought t q k row r =
+    (ahead k (answers t q k) (r .spot) ≡ keep (less (take k row)) (answers t q k))
+    × ((r .evaluations ≤ 6 * sizeOf t)
+    × (r .evaluations ≡ sought (sizeOf t) (take k row) (keep (less (take k row)) (answers t q k))))
+
+-- what is asked of the first answer after a cursor's row, or of the first of all
+abbrev pub SoughtAfter : List ℕ → List ℕ → ℕ → Cursor → Found → Type 0
+SoughtAfter t q k c r =
+    (ahead k (answers t q k) (r .spot) ≡ after k (answers t q k) c)
+    × ((r .evaluations ≤ 6 * sizeOf t) × (r .evaluations ≡ soughtAfter (sizeOf t) k c (after k (answers t q k) c)))
 
 -- the result of a search that finds no answer: past the last row
 abbrev pub noAnswer : List ℕ → ℕ → Found

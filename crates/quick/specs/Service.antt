@@ -10,7 +10,7 @@ use Rattle.model.specs.declared.PageReply.{PageReply}
 use Rattle.model.specs.declared.QuickReply.{QuickReply}
 use Rattle.model.specs.Tree.{sizeOf}
 use Rattle.model.specs.Answers.{answers}
-use Rattle.model.specs.Pages.{after}
+use Rattle.model.specs.Pages.{after, paged}
 use Rattle.model.specs.Services.{quickOutcome, PageLeaves}
 use Rattle.answers.specs.declared.Paged.{Paged}
 use Rattle.quick.specs.declared.Quick.{Quick}
@@ -34,6 +34,13 @@ abbrev pub QuickLeaves : List ℕ → List ℕ → ℕ → Cursor → List ℕ �
 QuickLeaves t q columns c buffer r cursor rows =
     PageLeaves (quickOutcome t q columns c buffer) (plainReply r) cursor rows
     × ((r .evaluations ≡ quickEffort t q columns c buffer) × (r .evaluations ≤ 6 * sizeOf t * (r .count + 1)))
+
+-- what is asked of the function that writes the page of an accepted call
+abbrev pub PageWritten : List ℕ → List ℕ → ℕ → Cursor → List ℕ → Quick → List ℕ → Type 0
+PageWritten t q k c buffer r rows =
+    PageLeaves (paged k (answers t q k) c buffer) (plainReply (r .reply)) (r .cursor) rows
+    × ((r .reply .evaluations ≤ 6 * sizeOf t * (r .reply .count + 1))
+    × (r .reply .evaluations ≡ effort (sizeOf t) k c (after k (answers t q k) c) (r .reply .count)))
 
 -- The results of the by-value functions.
 

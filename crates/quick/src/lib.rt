@@ -3,19 +3,17 @@
 // evaluations for each row written, and as many to tell whether there is one more.
 ghost use mathlib.Core.Path.{_≡_};
 ghost use mathlib.Core.Bool.{true};
-ghost use Prim.Native.Nat.{_+_, _*_, _≤_, _<_};
-ghost use lib.ListN.{take, drop};
+ghost use Prim.Native.Nat.{_≤_, _<_};
+ghost use lib.ListN.{take};
 ghost use Rattle.model.specs.Tree.{sizeOf};
-ghost use Rattle.model.specs.Answers.{less, keep, answers};
-ghost use Rattle.model.specs.Pages.{rowOf, hasBegun, after, paged};
+ghost use Rattle.model.specs.Pages.{rowOf, hasBegun};
 ghost use Rattle.model.specs.Refusals.{verdict};
 ghost use Rattle.model.specs.Checks.{quickChecks};
 ghost use Rattle.model.specs.Accepted.{Below};
 ghost use Rattle.model.specs.Services.{pageOutcome, PageLeaves};
-ghost use Rattle.answers.specs.Search.{rowAt, ahead, Searchable};
-ghost use Rattle.quick.specs.Search.{Ready, Nodes, passes, goesOn, someAnswer, Lowest, Tries, Begins, First, noAnswer};
-ghost use Rattle.quick.specs.Effort.{descended, sought, soughtAfter, effort};
-ghost use Rattle.quick.specs.Service.{plainReply, countedOf, plainOf, refusedPage, QuickLeaves};
+ghost use Rattle.answers.specs.Search.{Searchable};
+ghost use Rattle.quick.specs.Search.{Ready, Nodes, passes, goesOn, someAnswer, Seeks, Begins, FirstFrom, Sought, SoughtAfter, noAnswer};
+ghost use Rattle.quick.specs.Service.{PageWritten, countedOf, plainOf, refusedPage, QuickLeaves};
 
 // A number that was tried for a variable, and the evaluations made so far.
 struct Tried {
@@ -74,12 +72,7 @@ fn lowest_passing(
         Searchable (now tree) (now prev) (now query) k
         × (Nodes (sizeOf (now tree)) k row × ((i < k) × ((from ≤ sizeOf (now tree)) × (spent ≤ 65536))))
         ⌝ }
-    ensures { λ r.
-        ⌜
-        Lowest (passes (now (tree .entry)) (now (query .entry)) k row i) from (sizeOf (now (tree .entry))) (r .number)
-        × ((r .evaluations ≤ spent + sizeOf (now (tree .entry)))
-        × Tries from (sizeOf (now (tree .entry))) (r .number) spent (r .evaluations))
-        ⌝ }
+    ensures { λ r. ⌜ Seeks (passes (now (tree .entry)) (now (query .entry)) k row i) from (sizeOf (now (tree .entry))) spent r ⌝ }
 {
     let n = tree.len() / 2;
     let mut v = from;
@@ -117,12 +110,7 @@ fn lowest_from(
         Ready (now tree) (now prev) (now query) k
         × (Nodes (sizeOf (now tree)) k row × ((i < k) × ((from ≤ sizeOf (now tree)) × (spent ≤ 65536))))
         ⌝ }
-    ensures { λ r.
-        ⌜
-        Lowest (goesOn (now (tree .entry)) (now (query .entry)) k row i) from (sizeOf (now (tree .entry))) (r .number)
-        × ((r .evaluations ≤ spent + sizeOf (now (tree .entry)))
-        × Tries from (sizeOf (now (tree .entry))) (r .number) spent (r .evaluations))
-        ⌝ }
+    ensures { λ r. ⌜ Seeks (goesOn (now (tree .entry)) (now (query .entry)) k row i) from (sizeOf (now (tree .entry))) spent r ⌝ }
 {
     let filled = i + 1;
     let last = filled == k;
@@ -160,12 +148,7 @@ fn fill(
         Ready (now tree) (now prev) (now query) k
         × (Nodes (sizeOf (now tree)) k row × ((i ≤ k) × (Begins (now tree) (now query) k i row × (spent ≤ 4096))))
         ⌝ }
-    ensures { λ r.
-        ⌜
-        First (now (tree .entry)) (now (query .entry)) k i row (r .spot)
-        × ((r .evaluations ≤ spent + 3 * sizeOf (now (tree .entry)))
-        × (r .evaluations ≡ spent + descended (drop i (rowAt k (r .spot)))))
-        ⌝ }
+    ensures { λ r. ⌜ FirstFrom (now (tree .entry)) (now (query .entry)) k i row spent r ⌝ }
 {
     let mut at = row;
     let mut j = i;
@@ -202,15 +185,7 @@ fn no_answer(row: [u16; 3], evaluations: usize) -> Found
 // later variables are then filled. At most 6 × n evaluations.
 fn answer_after(tree: &[u16], prev: &[u16], query: &[u16], k: usize, row: [u16; 3]) -> Found
     requires { ⌜ Ready (now tree) (now prev) (now query) k × Below (sizeOf (now tree)) (take k row) ⌝ }
-    ensures { λ r.
-        ⌜
-        (ahead k (answers (now (tree .entry)) (now (query .entry)) k) (r .spot)
-        ≡ keep (less (take k row)) (answers (now (tree .entry)) (now (query .entry)) k))
-        × ((r .evaluations ≤ 6 * sizeOf (now (tree .entry)))
-        × (r .evaluations
-        ≡ sought (sizeOf (now (tree .entry))) (take k row)
-        (keep (less (take k row)) (answers (now (tree .entry)) (now (query .entry)) k))))
-        ⌝ }
+    ensures { λ r. ⌜ Sought (now (tree .entry)) (now (query .entry)) k row r ⌝ }
 {
     let n = tree.len() / 2;
     let mut i = k;
@@ -235,15 +210,7 @@ fn first_answer(tree: &[u16], prev: &[u16], query: &[u16], k: usize, cursor: mod
         Ready (now tree) (now prev) (now query) k
         × (hasBegun cursor ≡ true → Below (sizeOf (now tree)) (rowOf k cursor))
         ⌝ }
-    ensures { λ r.
-        ⌜
-        (ahead k (answers (now (tree .entry)) (now (query .entry)) k) (r .spot)
-        ≡ after k (answers (now (tree .entry)) (now (query .entry)) k) cursor)
-        × ((r .evaluations ≤ 6 * sizeOf (now (tree .entry)))
-        × (r .evaluations
-        ≡ soughtAfter (sizeOf (now (tree .entry))) k cursor
-        (after k (answers (now (tree .entry)) (now (query .entry)) k) cursor)))
-        ⌝ }
+    ensures { λ r. ⌜ SoughtAfter (now (tree .entry)) (now (query .entry)) k cursor r ⌝ }
 {
     let begun = cursor.begun != 0;
     if begun {
@@ -295,15 +262,7 @@ fn write_page(
         Ready (now tree) (now prev) (now query) k
         × (hasBegun cursor ≡ true → Below (sizeOf (now tree)) (rowOf k cursor))
         ⌝ }
-    ensures { λ r.
-        ⌜
-        PageLeaves (paged k (answers (now (tree .entry)) (now (query .entry)) k) cursor (now (rows .entry)))
-        (plainReply (r .reply)) (r .cursor) (now (rows .exit))
-        × ((r .reply .evaluations ≤ 6 * sizeOf (now (tree .entry)) * (r .reply .count + 1))
-        × (r .reply .evaluations
-        ≡ effort (sizeOf (now (tree .entry))) k cursor
-        (after k (answers (now (tree .entry)) (now (query .entry)) k) cursor) (r .reply .count)))
-        ⌝ }
+    ensures { λ r. ⌜ PageWritten (now (tree .entry)) (now (query .entry)) k cursor (now (rows .entry)) r (now (rows .exit)) ⌝ }
 {
     let room = rows.len() / k;
     let first = first_answer(tree, prev, query, k, cursor);

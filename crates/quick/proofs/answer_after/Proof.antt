@@ -50,7 +50,7 @@ fill-requires : tie.Need-fill-requires Inv-loop μ-loop
 fill-requires c κs = let s = c .before .before .before .before .before .before .before .before .before .before in let l = c .before .before .before .before .before .before .loop in let w = c .before .before .before .lowest-from .ensures in let n = nodes (s .pre .0) (s .args .t5) (omega arith) (s .pre .1) in (s .pre .0, (seeking-nodes (s .pre .0) (s .args .t5) (omega arith) (l .i) _ (l .inv) (c .before .before .before .before .before .loop-test .taken) _ (c .before .before .before .before .wide .ensures .0) n _ _ (w .0) (w .1 .0) (w .1 .1) (c .before .if1 .taken), (omega (arith, l .inv .climbing .within, c .before .before .before .before .before .loop-test .taken), (seeking-begins (s .pre .0) (s .args .t5) (omega arith) (l .i) _ (l .inv) (c .before .before .before .before .before .loop-test .taken) _ (c .before .before .before .before .wide .ensures .0) n _ _ (w .0) (w .1 .0) (w .1 .1) (c .before .if1 .taken), omega (arith, w .1 .0, seeking-few (s .pre .0) (s .args .t5) (omega arith) (l .i) _ (l .inv) (c .before .before .before .before .before .loop-test .taken) _ (c .before .before .before .before .wide .ensures .0), s .pre .0 .searchable .linked .tree .sound .at-most)))))
 
 returns : tie.Need-returns Inv-loop μ-loop
-returns c = let s = c .before .before .before .before .before .before .before .before .before .before .before in let l = c .before .before .before .before .before .before .before .loop in let w = c .before .before .before .before .lowest-from .ensures in let n = nodes (s .pre .0) (s .args .t5) (omega arith) (s .pre .1) in seeking-found (s .pre .0) (s .args .t5) (omega arith) (l .i) _ (l .inv) (c .before .before .before .before .before .before .loop-test .taken) _ (c .before .before .before .before .before .wide .ensures .0) n _ _ (w .0) (w .1 .0) (w .1 .1) (c .before .before .if1 .taken) _ _ (c .fill .ensures .0) (c .fill .ensures .1 .0) (c .fill .ensures .1 .1)
+returns c = let s = c .before .before .before .before .before .before .before .before .before .before .before in let l = c .before .before .before .before .before .before .before .loop in let w = c .before .before .before .before .lowest-from .ensures in let n = nodes (s .pre .0) (s .args .t5) (omega arith) (s .pre .1) in seeking-found (s .pre .0) (s .args .t5) (omega arith) (l .i) _ (l .inv) (c .before .before .before .before .before .before .loop-test .taken) _ (c .before .before .before .before .before .wide .ensures .0) n _ _ (w .0) (w .1 .0) (w .1 .1) (c .before .before .if1 .taken) _ (c .fill .ensures)
 
 loop-less : tie.Need-loop-less Inv-loop μ-loop
 loop-less c = omega (arith, c .before .before .before .before .loop-test .taken)

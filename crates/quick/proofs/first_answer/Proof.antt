@@ -9,7 +9,7 @@ answer-after-requires : tie.Need-answer-after-requires
 answer-after-requires c κs = let s = c .before .before .before .before .before in (s .pre .0, s .pre .1 (c .if1 .taken))
 
 returns : tie.Need-returns
-returns c = let s = c .before .before .before .before .before .before in first-begun (s .pre .0) (s .args .cursor) (c .answer-after .result .spot) (c .answer-after .result .evaluations) (c .answer-after .ensures) (c .before .if1 .taken)
+returns c = let s = c .before .before .before .before .before .before in first-begun (s .pre .0) (s .args .cursor) (c .answer-after .result) (c .answer-after .ensures) (c .before .if1 .taken)
 
 has-answer-requires : tie.Need-has-answer-requires
 has-answer-requires c κs = search needs
@@ -18,7 +18,7 @@ fill-requires : tie.Need-fill-requires
 fill-requires c κs = let s = c .before .before .before .before .before .before .before in (s .pre .0, (zero-nodes (s .pre .0), (omega arith, (some-begins (s .pre .0) _ (c .before .has-answer .ensures) (c .if2 .taken) (zero-nodes (s .pre .0)), omega arith))))
 
 returns-2 : tie.Need-returns-2
-returns-2 c = let s = c .before .before .before .before .before .before .before .before in first-filled (s .pre .0) (s .args .cursor) (c .before .before .before .if1 .left) _ _ (c .fill .ensures .0) (c .fill .ensures .1 .0) (c .fill .ensures .1 .1)
+returns-2 c = let s = c .before .before .before .before .before .before .before .before in first-filled (s .pre .0) (s .args .cursor) (c .before .before .before .if1 .left) _ (c .fill .ensures)
 
 no-answer-requires : tie.Need-no-answer-requires
 no-answer-requires c κs = search needs

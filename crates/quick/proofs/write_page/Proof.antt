@@ -20,7 +20,7 @@ first-answer-requires : tie.Need-first-answer-requires Inv-loop μ-loop
 first-answer-requires c κs = search needs
 
 loop-holds : tie.Need-loop-holds Inv-loop μ-loop
-loop-holds c = written-start _ _ _ _ _ _ _ (c .before .first-answer .ensures)
+loop-holds c = written-start _ _ _ _ _ _ (c .before .first-answer .ensures)
 
 page-of-requires : tie.Need-page-of-requires Inv-loop μ-loop
 page-of-requires c κs = search needs
@@ -56,7 +56,7 @@ loop-less : tie.Need-loop-less Inv-loop μ-loop
 loop-less c = search needs
 
 loop-again : tie.Need-loop-again Inv-loop μ-loop
-loop-again c = let b = c .before .before .before .before .before .before .before .before .before in written-turn (b .before .before .loop .inv) (b .before .loop-test .taken) (b .if1 .left) _ (c .before .before .before .before .before .before .write-row .ensures) _ (c .before .before .before .cursor-at .ensures) _ _ (c .before .before .answer-after .ensures)
+loop-again c = let b = c .before .before .before .before .before .before .before .before .before in written-turn (b .before .before .loop .inv) (b .before .loop-test .taken) (b .if1 .left) _ (c .before .before .before .before .before .before .write-row .ensures) _ (c .before .before .before .cursor-at .ensures) _ (c .before .before .answer-after .ensures)
 
 page-of-requires-2 : tie.Need-page-of-requires-2 Inv-loop μ-loop
 page-of-requires-2 c κs = search needs
