@@ -21,10 +21,10 @@ struct query {
     size_t start;
 };
 
-/* An engine. It reads the document once and compiles each query once; call is what is timed. */
+/* An engine. It reads the document, or takes the shared table, once and compiles each query once; call is what is timed. */
 struct engine {
     const char *name;
-    void (*open)(const char *xml, const uint16_t *tree, size_t nodes);
+    void (*open)(const char *xml, const uint16_t *shared, size_t nodes);
     void (*compile)(const struct query *query);
     /* evaluates the query from the one node */
     void (*call)(size_t start);
@@ -40,7 +40,7 @@ void give_up(const char *why);
 
 /* Compares the engines on all queries, times them, and prints a table in Markdown (timing.c). */
 void time_engines(const struct engine *const *engines, size_t engine_count, const struct query *queries, size_t query_count,
-                  const char *xml, const uint16_t *tree, size_t n, int with_start);
+                  const char *xml, const uint16_t *shared, size_t n, int with_start);
 #ifdef __cplusplus
 }
 #endif

@@ -1,7 +1,8 @@
 #!/usr/bin/env python3
 """Writes what the benchmark runs on to a folder: tree.xml, and tables.h with the same tree as a table, the queries as text
 and as tables, and the nodes that each query reaches from each node, worked out by tests/support/reference.py; searches for
-descendants with a tag, as queries; queries whose pairs are all asked for; and the tree's index and the list of its tags.
+descendants with a tag, as queries; queries whose pairs are all asked for; and the tree's index and the list of its tags. The tree
+stands there once more as a shared table, with all nodes common, and once with half of its nodes hidden from party 1.
 
     generate.py [--different] FOLDER [NODES [SEED]]
 
@@ -9,7 +10,7 @@ descendants with a tag, as queries; queries whose pairs are all asked for; and t
 import os, random, sys
 sys.dont_write_bytecode = True
 sys.path.insert(0, os.path.join(os.path.dirname(__file__), "..", "tests", "support"))
-from reference import Tree, relation
+from reference import Tree, relation, seen
 
 AXES = ("self child parent right left descendant ancestor following preceding following-sibling preceding-sibling "
         "descendant-or-self ancestor-or-self").split()
@@ -166,6 +167,27 @@ def all_different(table):
     return [number for pair in zip(table[::2], names) for number in pair]
 
 
+def shared(table, owners):
+    """The tree as a shared table."""
+    return [number for x, owner in enumerate(owners) for number in (table[2 * x], table[2 * x + 1], owner)]
+
+
+def halved(table):
+    """The owners that hide half of the nodes from party 1: subtrees of party 2 here and there, as many as it takes. The other nodes are
+    common in turn and party 1's own."""
+    n, chance = len(table) // 2, random.Random(2)
+    below = [{x} for x in range(n)]
+    for x in range(n - 1, 0, -1):
+        below[table[2 * x]] |= below[x]
+    owners, hidden = [x % 2 for x in range(n)], set()
+    owners[0] = 0
+    for x in chance.sample(range(1, n), n - 1):
+        if len(hidden | below[x]) <= n // 2:
+            owners[x] = 2
+            hidden |= below[x]
+    return owners
+
+
 def xml(table):
     n, text, open_nodes = len(table) // 2, [], []
     for k in range(n):
@@ -201,7 +223,9 @@ def relation_array(tree):
 
 def header(table):
     tree, (due_next, due_tags) = Tree(table), index(table[1::2])
-    text = "#define NODES %d\n" % tree.n + array("uint16_t", "tree", table)
+    text = "#define NODES %d\n" % tree.n + array("uint16_t", "tree", table) + array("uint16_t", "shared", shared(table, [0] * tree.n))
+    half = shared(table, halved(table))
+    text += array("uint16_t", "halved", half) + array("uint16_t", "due_seen", seen(half, 1))
     text += array("uint16_t", "due_next", due_next) + array("uint16_t", "due_tags", due_tags)
     text += query_array("queries", tree, [(xpath, entries, 0) for xpath, entries in QUERIES])
     return text + query_array("searches", tree, searches(table)) + relation_array(tree)

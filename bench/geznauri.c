@@ -1,5 +1,5 @@
-/* This engine, over its C boundary: every call is lent the tables, and checks the tree and the query anew. Twice: queries, and the
-   descendants with a tag by the index of the tree, which is made once. */
+/* This engine, over its C boundary, for party 1: every call is lent the tables, and checks the tree and the query anew. Twice: queries,
+   and the descendants with a tag by the index of the tree, which is made once. */
 #include "bench.h"
 #include "geznauri.h"
 
@@ -27,7 +27,7 @@ static void call(size_t start)
     from[last] = 0;
     from[start] = 1;
     last = start;
-    reply = gz_forwards(table, 2 * count, current->table, current->length, 0, NULL, 0, from, count, to, count);
+    reply = gz_forwards(table, 3 * count, 1, current->table, current->length, 0, NULL, 0, from, count, to, count);
 }
 
 static void found(uint8_t *set)
@@ -43,14 +43,14 @@ const struct engine geznauri_engine = {"this engine", open_document, compile, ca
 static void open_indexed(const char *xml, const uint16_t *tree, size_t n)
 {
     open_document(xml, tree, n);
-    if (gz_index(tree, 2 * n, next, 256, tags, 768).number != 0)
+    if (gz_index(tree, 3 * n, 1, next, 256, tags, 768).number != 0)
         give_up("this engine refuses the tree");
 }
 
 /* The query is the step descendant with a tag. */
 static void call_indexed(size_t start)
 {
-    reply = gz_descendants(table, 2 * count, next, count, (uint16_t)start, current->table[3], to, count);
+    reply = gz_descendants(table, 3 * count, 1, next, count, (uint16_t)start, current->table[3], to, count);
 }
 
 const struct engine index_engine = {"this engine by index", open_indexed, compile, call_indexed, found};

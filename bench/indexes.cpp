@@ -23,7 +23,7 @@ static xmlChar names[NODES][8];
 // This engine: the tree is checked in every call.
 static void ours()
 {
-    tags_len = gz_index(tree, 2 * NODES, next_of, 256, tags, 768).tags;
+    tags_len = gz_index(shared, 3 * NODES, 1, next_of, 256, tags, 768).tags;
 }
 
 // Nodes that are sorted by their tags, and by number where these are equal, are linked in one pass.

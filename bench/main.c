@@ -12,6 +12,6 @@ int main(int argc, char **argv)
 {
     if (argc != 2)
         give_up("the one argument is the document");
-    time_engines(engines, sizeof engines / sizeof *engines, queries, sizeof queries / sizeof *queries, argv[1], tree, NODES, 0);
+    time_engines(engines, sizeof engines / sizeof *engines, queries, sizeof queries / sizeof *queries, argv[1], shared, NODES, 0);
     return 0;
 }

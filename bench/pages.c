@@ -53,9 +53,9 @@ static gz_quick_reply page_of(const struct list *l, int quick, gz_cursor *cursor
 {
     gz_quick_reply q = {0};
     if (quick) {
-        q = gz_quick_page(l->tree, 2 * l->nodes, l->query, l->length, l->columns, cursor, rows, (size_t)l->columns * PAGE);
+        q = gz_quick_page(l->tree, 3 * l->nodes, 1, l->query, l->length, l->columns, cursor, rows, (size_t)l->columns * PAGE);
     } else {
-        gz_page_reply p = gz_page(l->tree, 2 * l->nodes, l->query, l->length, l->columns, cursor, rows, (size_t)l->columns * PAGE);
+        gz_page_reply p = gz_page(l->tree, 3 * l->nodes, 1, l->query, l->length, l->columns, cursor, rows, (size_t)l->columns * PAGE);
         q = (gz_quick_reply){p.number, p.place, p.count, p.more, 0};
     }
     if (q.number != 0)
@@ -83,7 +83,7 @@ static void rates(const char *what, const uint16_t *query, size_t length, uint16
     static const size_t sizes[] = {6, 64, 256};
     printf("| %s, %u variable%s |", what, columns, columns > 1 ? "s" : "");
     for (size_t i = 0; i < LENGTH(sizes); i++) {
-        struct list l = {.tree = tree, .nodes = sizes[i], .query = query, .length = length, .columns = columns};
+        struct list l = {.tree = shared, .nodes = sizes[i], .query = query, .length = length, .columns = columns};
         double plain = rate(&l, 0), quick = rate(&l, 1);
         printf(" %.0f | %.0f |", plain, quick);
         fflush(stdout);
@@ -121,11 +121,11 @@ static const char *program, *job;
 
 static void write_job(const struct list *l)
 {
-    size_t query_at = 12 + 2 * l->length, tree_at = query_at + 4 * l->nodes;
-    uint16_t trailer[] = {(uint16_t)tree_at, (uint16_t)(2 * l->nodes), (uint16_t)query_at, (uint16_t)l->length, l->columns, 20564};
+    size_t query_at = 14 + 2 * l->length, tree_at = query_at + 6 * l->nodes;
+    uint16_t trailer[] = {(uint16_t)tree_at, (uint16_t)(3 * l->nodes), (uint16_t)query_at, (uint16_t)l->length, l->columns, 1, 20565};
     FILE *file = fopen(job, "wb");
-    if (!file || fwrite(l->tree, 4, l->nodes, file) != l->nodes || fwrite(l->query, 2, l->length, file) != l->length ||
-        fwrite(trailer, 2, 6, file) != 6 || fclose(file) != 0)
+    if (!file || fwrite(l->tree, 6, l->nodes, file) != l->nodes || fwrite(l->query, 2, l->length, file) != l->length ||
+        fwrite(trailer, 2, 7, file) != 7 || fclose(file) != 0)
         same(0, job);
 }
 
@@ -172,7 +172,7 @@ static void time_list(const struct list *l)
 /* A node and its child, in the benchmark's tree. */
 static void time_children(void)
 {
-    struct list l = {"/descendant-or-self::*[. is $0]/child::*[. is $1]", tree, NODES, children, LENGTH(children), 2, {0}, 0};
+    struct list l = {"/descendant-or-self::*[. is $0]/child::*[. is $1]", shared, NODES, children, LENGTH(children), 2, {0}, 0};
     for (uint16_t x = 0; x < NODES; x++)
         for (uint16_t y = 1; y < NODES; y++)
             if (tree[2 * y] == x)
@@ -181,11 +181,11 @@ static void time_children(void)
 }
 
 /* A hall of five aisles, each with five bays, each with nine pallets: 256 nodes and 225 answers. */
-static uint16_t hall[512], hall_nodes;
+static uint16_t hall[768], hall_nodes;
 
 static uint16_t put(uint16_t parent, uint16_t tag)
 {
-    hall[2 * hall_nodes] = parent, hall[2 * hall_nodes + 1] = tag;
+    hall[3 * hall_nodes] = parent, hall[3 * hall_nodes + 1] = tag;
     return hall_nodes++;
 }
 

@@ -22,13 +22,13 @@ static uint64_t words[4 * NODES], due[4 * NODES];
 
 static void in_bits(void)
 {
-    if (gz_pairs_bits(tree, 2 * NODES, current->table, current->length, 0, NULL, 0, words, 4 * NODES).number != 0)
+    if (gz_pairs_bits(shared, 3 * NODES, 1, current->table, current->length, 0, NULL, 0, words, 4 * NODES).number != 0)
         give_up("this engine refuses pairs in bits");
 }
 
 static void in_bytes(void)
 {
-    if (gz_pairs(tree, 2 * NODES, current->table, current->length, 0, NULL, 0, cells, sizeof cells).number != 0)
+    if (gz_pairs(shared, 3 * NODES, 1, current->table, current->length, 0, NULL, 0, cells, sizeof cells).number != 0)
         give_up("this engine refuses pairs");
 }
 
@@ -182,7 +182,7 @@ int main(int argc, char **argv)
     (void)queries, (void)searches, (void)due_next, (void)due_tags;
     printf("| all pairs, %d nodes | pairs | in bits, µs | in bytes, µs | ratio", NODES);
     for (size_t i = 0; i < LENGTH(peers); i++) {
-        peers[i]->open(argv[1], tree, NODES);
+        peers[i]->open(argv[1], shared, NODES);
         printf(" | %s, µs | ratio", peers[i]->name);
     }
     printf(" |\n|---|---:|---:|---:|---:|---:|---:|---:|---:|\n");

@@ -9,6 +9,6 @@ int main(int argc, char **argv)
 {
     if (argc != 2)
         give_up("the one argument is the document");
-    time_engines(engines, sizeof engines / sizeof *engines, searches, sizeof searches / sizeof *searches, argv[1], tree, NODES, 1);
+    time_engines(engines, sizeof engines / sizeof *engines, searches, sizeof searches / sizeof *searches, argv[1], shared, NODES, 1);
     return 0;
 }

@@ -60,11 +60,11 @@ static void measure(const struct engine *const *engines, size_t engine_count, co
 }
 
 void time_engines(const struct engine *const *engines, size_t engine_count, const struct query *queries, size_t query_count,
-                  const char *xml, const uint16_t *tree, size_t n, int with_start)
+                  const char *xml, const uint16_t *shared, size_t n, int with_start)
 {
     printf(with_start ? "| query, %zu nodes | from | found" : "| query, %zu nodes | found", n);
     for (size_t i = 0; i < engine_count; i++) {
-        engines[i]->open(xml, tree, n);
+        engines[i]->open(xml, shared, n);
         printf(i ? " | %s, ns | ratio" : " | %s, ns", engines[i]->name);
     }
     printf(with_start ? " |\n|---|---:|---:" : " |\n|---|---:");

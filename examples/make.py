@@ -18,12 +18,13 @@ def packed(numbers):
     return struct.pack("<%dH" % len(numbers), *numbers)
 
 
-def job(tree, query, columns):
-    """A job file: the tree, the query, and the trailer, whose distances count back from the end of the file."""
-    end = 12
-    query_distance = end + 2 * len(query)
+def job(tree, query, columns, party=None):
+    """A job file: the tree, the query, and the trailer, whose distances count back from the end of the file. With a party the tree has
+    three numbers a node, and the trailer one number more."""
+    last = [20564] if party is None else [party, 20565]
+    query_distance = 2 * (5 + len(last) + len(query))
     tree_distance = query_distance + 2 * len(tree)
-    trailer = [tree_distance, len(tree), query_distance, len(query), columns, 20564]
+    trailer = [tree_distance, len(tree), query_distance, len(query), columns] + last
     return packed(tree) + packed(query) + packed(trailer)
 
 
@@ -39,6 +40,11 @@ def table(shape):
 
     add(shape, ROOT_PARENT)
     return numbers
+
+
+def shared(tree, owners):
+    """A shared table: a tree table with an owner for each node, 0 where it is common."""
+    return [number for node, owner in enumerate(owners) for number in (tree[2 * node], tree[2 * node + 1], owner)]
 
 
 def entries(*rows):
@@ -124,13 +130,27 @@ SMALL = table((HALL, aisle("pd", "p"), aisle("dp")))
 # Node 1 says that it is its own parent.
 OWN_PARENT = [ROOT_PARENT, HALL, 1, BAY, 1, PALLET]
 
-# Each job by its name: tree, query, number of variables.
+# Two firms in one hall. Bays 1 and 9 are common and the two between them a firm's each; a bay has pallets of either firm and common ones.
+# Below bay 4, which is firm 2's, even a common pallet is hidden from firm 1.
+#   0 hall   1 bay, 2 of 1, 3 of 2   4 bay of 2, 5   6 bay of 1, 7 of 1, 8   9 bay, 10 of 2, 11 of 2
+FIRMS = table((HALL, (BAY, (PALLET,), (PALLET,)), (BAY, (PALLET,)), (BAY, (PALLET,), (PALLET,)), (BAY, (PALLET,), (PALLET,))))
+OWNERS = [0, 0, 1, 2, 2, 0, 1, 1, 0, 0, 2, 2]
+TWO_FIRMS = shared(FIRMS, OWNERS)
+
+# Pallet 10 is said to be a third firm's.
+THIRD_OWNER = shared(FIRMS, OWNERS[:10] + [3, 2])
+
+# Each job by its name: tree, query, number of variables and, where the tree is shared, party.
 JOBS = {
     "warehouse": (TEACHING, BAYS_AND_PALLETS, 2),
     "either": (TEACHING, EITHER, 2),
     "refused": (OWN_PARENT, BAYS_AND_PALLETS, 2),
     "aisles": (AISLES, SOUND_AND_NOT_LAST, 2),
     "places": (SMALL, PLACES, 3),
+    "firm-one": (TWO_FIRMS, BAYS_AND_PALLETS, 2, 1),
+    "firm-two": (TWO_FIRMS, BAYS_AND_PALLETS, 2, 2),
+    "firm-three": (TWO_FIRMS, BAYS_AND_PALLETS, 2, 3),
+    "third-owner": (THIRD_OWNER, BAYS_AND_PALLETS, 2, 1),
 }
 
 if __name__ == "__main__":

@@ -10,9 +10,11 @@
 #include <stdio.h>
 #include <string.h>
 
-static const uint16_t tree[] = {65535, 1, 0, 2, 1, 3, 1, 3, 0, 2, 4, 3};
+/* parent, tag and owner of each node; all are common, so that either party sees all of them */
+static const uint16_t tree[] = {65535, 1, 0, 0, 2, 0, 1, 3, 0, 1, 3, 0, 0, 2, 0, 4, 3, 0};
 static const uint8_t house[] = "\5store\4hall\3bay", site[] = "\6pallet";
 #define NODES 6
+#define PARTY 1
 
 static void print_answers(const uint16_t *query, size_t length, uint16_t columns)
 {
@@ -20,7 +22,7 @@ static void print_answers(const uint16_t *query, size_t length, uint16_t columns
     uint16_t rows[3 * 64];
     gz_page_reply page;
     do {
-        page = gz_page(tree, 2 * NODES, query, length, columns, &cursor, rows, columns * 64);
+        page = gz_page(tree, 3 * NODES, PARTY, query, length, columns, &cursor, rows, columns * 64);
         for (size_t i = 0; i < page.count * columns; i++)
             printf("%u%c", rows[i], (i + 1) % columns == 0 ? '\n' : ' ');
     } while (page.more);
@@ -30,7 +32,7 @@ static void print_reached(const uint16_t *query, size_t length)
 {
     static const uint8_t root[NODES] = {1};
     uint8_t reached[NODES];
-    gz_forwards(tree, 2 * NODES, query, length, 0, NULL, 0, root, NODES, reached, NODES);
+    gz_forwards(tree, 3 * NODES, PARTY, query, length, 0, NULL, 0, root, NODES, reached, NODES);
     for (unsigned node = 0; node < NODES; node++)
         if (reached[node])
             printf("%u\n", node);

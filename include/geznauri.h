@@ -2,8 +2,9 @@
  * Geznauri: queries over small trees, for C.
  *
  * The engine answers Core XPath queries with intersect, except and node variables over trees of up to 256 nodes. Trees and
- * queries are lent to it as tables of 16-bit numbers, and gz_read makes the table of a query that is typed. gz_index makes the
- * index of a tree, by which gz_descendants finds the descendants with a tag. All pairs of a query are given a byte a pair by gz_pairs,
+ * queries are lent to it as tables of 16-bit numbers, and gz_read makes the table of a query that is typed. Two parties may share one
+ * tree table: each sees its own nodes and the common ones, as a tree by themselves, and a call is made for one of the two. gz_index makes
+ * the index of a tree, by which gz_descendants finds the descendants with a tag. All pairs of a query are given a byte a pair by gz_pairs,
  * and a bit a pair by gz_pairs_bits. The answers of a query with variables are given a page at a time by gz_page, and by gz_quick_page
  * with far fewer evaluations where the query keeps a rule. This page describes them, every function, and every reply.
  *
@@ -12,9 +13,9 @@
  *     cc -I include program.c target/staticlib/libterminal.a
  *
  * The archive defines the functions of section 11 and no other global symbol. It needs two functions of the C library, which
- * compilers call of their own accord: memcpy, memset. It has less than 72 KiB of code and constants, and has no variables.
+ * compilers call of their own accord: memcpy, memset. It has less than 80 KiB of code and constants, and has no variables.
  *
- * Contents:  1 For every call   2 Tree table   3 Query table   4 Node sets and relations   5 Answers, pages, cursors
+ * Contents:  1 For every call   2 Tree table and parties   3 Query table   4 Node sets and relations   5 Answers, pages, cursors
  *            6 Name tables   7 Typed queries   8 Indexes   9 Numbers of refusal   10 Types   11 Functions
  *
  *
@@ -35,30 +36,58 @@
  * Threads. No function keeps anything between calls, and there is no global state: calls may run at the same time on any
  * number of threads, with the same tables too, so long as each has its own buffers and cursor.
  *
- * Stack. gz_check_tree, gz_check_query and gz_name take less than 1 KiB; gz_index, gz_descendants, gz_pack, gz_unpack and gz_read,
- * however deep its text nests, take less than 4 KiB. gz_pairs_bits takes less than 56 KiB for every query, so that its stack and a
- * relation of 256 nodes in bits, 8 KiB, take less than the 64 KiB of one in bytes; the worst shape that was measured takes 48,320
- * bytes, and a run of steps less than 16 KiB. The others take less than 8 KiB for a query of one level, gz_quick_page less than 12 KiB,
- * and all less than 4 KiB for each further level of its nesting (section 3); there are 64 levels at most, so that no call takes 264 KiB.
+ * Stack. gz_check_tree, gz_check_query and gz_name take less than 1 KiB; gz_seen, gz_index, gz_descendants, gz_pack, gz_unpack and
+ * gz_read, however deep its text nests, take less than 4 KiB. gz_pairs_bits takes less than 56 KiB for every query, so that its stack and
+ * a relation of 256 nodes in bits, 8 KiB, take less than the 64 KiB of one in bytes; the worst shape that was measured takes 49,344
+ * bytes, and a run of steps less than 16 KiB. The others take less than 9 KiB for a query of one level, gz_quick_page less than 13 KiB,
+ * and all less than 4 KiB for each further level of its nesting (section 3); there are 64 levels at most, so that no call takes 265 KiB.
+ * Every call that is told a party keeps the seen tree on its stack, 1 KiB of these.
  *
  * Everything is counted from 0. Numbers of tables are in the machine's own byte order.
  *
  *
- * 2  TREE TABLE
+ * 2  TREE TABLE AND PARTIES
  *
- * Two numbers a node: its parent, its tag. Node k has the numbers at 2 k and 2 k + 1; the tree has n nodes, 1 to 256, so that
- * tree_len is 2 n. Nodes are numbered in document order: node 0 is the root, with parent 65535, and the parent of each later
+ * Three numbers a node: its parent, its tag, its owner. Node k has the numbers from 3 k on; a table has 1 to 256 nodes, so that tree_len
+ * is three times their number. Nodes are numbered in document order: node 0 is the root, with parent 65535, and the parent of each later
  * node k is node k - 1 or an ancestor of node k - 1. Siblings stand in number order. Tags are 0 to 65533; node 0 may have the tag
- * 65534, which makes it a document node, the node above the top element that desktop tools expect.
+ * 65534, which makes it a document node, the node above the top element that desktop tools expect. The owner is 0 for a node that is
+ * common, and 1 or 2 for one that is a party's; node 0 is common.
  *
- * The tree of all examples here, a hall (tag 1) with two bays (tag 2) that hold pallets (tag 3):
+ * The tree of all examples here, a hall (tag 1) with two bays (tag 2) that hold pallets (tag 3), all common:
  *
- *     0 hall                        uint16_t tree[] = {65535, 1,  0, 2,  1, 3,  1, 3,  0, 2,  4, 3};
+ *     0 hall                        uint16_t tree[] = {65535, 1, 0,  0, 2, 0,  1, 3, 0,  1, 3, 0,  0, 2, 0,  4, 3, 0};
  *     |-- 1 bay
  *     |   |-- 2 pallet
  *     |   `-- 3 pallet
  *     `-- 4 bay
  *         `-- 5 pallet
+ *
+ * A call that is lent a tree table is told the party, 1 or 2, straight behind it; gz_check_tree alone has none. A party sees a node if the
+ * node's owner is 0 or the party itself and the node's parent, which node 0 alone lacks, is seen: what is below a hidden node is hidden
+ * too, whoever owns it. The seen nodes, renumbered without gaps in the order of the table, are the seen tree, and n is how many they are,
+ * 1 to 256. Such a call speaks of that tree alone: all node numbers that it is lent and that it replies, the places of sets, relations and
+ * indexes, and n everywhere below are the seen tree's. Where all nodes are common, either party sees them all, under their own numbers.
+ *
+ * A hall of three bays that two parties share. The hall, bay 1 and pallet 7 are common; party 1 has pallet 2 and bay 6, and party 2 has
+ * pallet 3, bay 4 and pallet 5:
+ *
+ *     0 hall                   party 1 sees        party 2 sees        uint16_t shared[] = {65535, 1, 0,  0, 2, 0,  1, 3, 1,
+ *     |-- 1 bay                0 hall              0 hall                                   1, 3, 2,  0, 2, 2,  4, 3, 2,
+ *     |   |-- 2 pallet of 1    |-- 1 bay           |-- 1 bay                                0, 2, 1,  6, 3, 0};
+ *     |   `-- 3 pallet of 2    |   `-- 2 pallet    |   `-- 2 pallet
+ *     |-- 4 bay of 2           `-- 3 bay           `-- 3 bay
+ *     |   `-- 5 pallet of 2        `-- 4 pallet        `-- 4 pallet
+ *     `-- 6 bay of 1
+ *         `-- 7 pallet
+ *
+ * Both see a tree of five nodes, and have the same replies to every call; for party 2, node 4 is the pallet that the table has at 5.
+ * gz_seen writes the seen tree: two numbers a node, parent and tag. A caller that needs the table's own numbers counts the seen nodes.
+ *
+ * What a party does not see cannot be told from its replies: two tables that are both accepted and show the party the same tree, lent with
+ * all else alike, give it the same replies, and the same bytes in every buffer and cursor. Refusals of the shared table itself (5, 6, 7 and
+ * 30) are the exception: they look at all of it, hidden nodes too, and their places are numbers of the table. All other refusals judge by
+ * the seen tree. Time can tell more: a call looks at every node of the table.
  *
  *
  * 3  QUERY TABLE
@@ -149,14 +178,14 @@
  * gz_page reads them a page at a time. The caller keeps a cursor, all zero to begin with, and lends it to every call. The
  * call writes the first answers after the cursor's row (from the first answer on where the cursor is fresh), as many as the
  * buffer has whole room for, and moves the cursor to the last row written. A caller that goes on until `more` is false has
- * read every answer once, in order, if each accepted call was lent the same tree, query and columns; refused calls between
+ * read every answer once, in order, if each accepted call was lent the same tree, party, query and columns; refused calls between
  * do no harm. A caller may also set the cursor: begun to 1, and its first `columns` numbers to any nodes, answer or not.
  *
  *     gz_cursor cursor = {0};
  *     uint16_t rows[64];
  *     gz_page_reply page;
  *     do {
- *         page = gz_page(tree, 12, query, 28, 2, &cursor, rows, 64);
+ *         page = gz_page(tree, 18, 1, query, 28, 2, &cursor, rows, 64);
  *         for (size_t i = 0; i < page.count; i++)
  *             printf("bay %u, pallet %u\n", rows[2 * i], rows[2 * i + 1]);
  *     } while (page.more);
@@ -243,14 +272,15 @@
  *
  * 8  INDEXES
  *
- * The index of a tree is n numbers: for each node the next later node that has the same tag, or 65535 where there is none. Beside
+ * The index of a seen tree is n numbers: for each node the next later node that has the same tag, or 65535 where there is none. Beside
  * it stands the list of the tags: three numbers for each tag that some node has, by rising tag: the tag, the first node that has
  * it, and how many nodes have it. The counts add up to n. There are at most 256 tags, so that a list has at most 768 numbers.
  *
  *     uint16_t next[] = {65535, 4, 3, 5, 65535, 65535};
  *     uint16_t tags[] = {1, 0, 1,  2, 1, 2,  3, 2, 3};        1 hall, from node 0; 2 bays, from node 1; 3 pallets, from node 2
  *
- * gz_index makes both. The caller keeps them beside the tree, and makes them anew where the tree changes.
+ * gz_index makes both, for one party: an index is of what that party sees. The caller keeps them beside the tree, and makes them anew
+ * where the tree changes.
  *
  * gz_descendants finds the descendants of a node, `start`, that have a tag, by a chain of nodes. The chain begins at the tree's
  * first node after start that has the tag, and goes on from each node to the one that the index has for it. It stops at 65535, or
@@ -274,16 +304,19 @@
  *
  * A reply has number 0 and place 0 if the call is accepted. Else number says what is wrong and place where. Checks are made
  * in the order of the numbers, each over all that it looks at before the next begins; the first that fails is the reply, at
- * the lowest place that is at fault. Four functions have another order: gz_read 21, 23, 24, 25, 26, 20, gz_descendants 5, 6, 7, 36,
- * 27, 20, gz_unpack 5, 18, 28, 20, and gz_quick_page, which has 29 between 15 and 17. Each function makes the checks that its
- * description in section 11 names.
+ * the lowest place that is at fault. But 30 and 31, of the shared table and the party, come straight after 7, in every function; and four
+ * functions have another order: gz_read 21, 23, 24, 25, 26, 20, gz_descendants 5, 6, 7, 30, 31, 36, 27, 20, gz_unpack 5, 18, 28, 20, and
+ * gz_quick_page, which has 29 between 15 and 17. Each function makes the checks that its description in section 11 names. n is that of
+ * the seen tree, and so are nodes that are lent; the places of 6, 7 and 30 are nodes of the shared table.
  *
  *      number   refused because                                                             place
- *       5       the tree table is empty, of odd length, or longer than 512 numbers; n is    0
- *               told and is not 1 to 256
+ *       5       the tree table is empty, its length no multiple of three, or longer than    0
+ *               768 numbers; n is told and is not 1 to 256
  *       6       node 0's parent is not 65535, or a later node's is neither the node         the node
  *               before it nor an ancestor of that node
  *       7       a node's tag is 65535, or it is 65534 and the node is not node 0            the node
+ *      30       a node's owner is above 2, or node 0's is not 0                             the node
+ *      31       the party is not 1 or 2                                                     0
  *       8       the query table is empty, its length no multiple of four, or longer         0
  *               than 256 numbers
  *       9       columns is above 3, or is 0 for gz_page or gz_quick_page                    0
@@ -301,7 +334,8 @@
  *               4 n words, long
  *      19       a byte of the node set, or of the relation, is above 1                      the byte
  *      20       a buffer has room for less than n bytes, n * n bytes, 4 n words, one        0
- *               row, the table of the typed query, the index, or the list of the tags
+ *               row, the seen tree, the table of the typed query, the index, or the
+ *               list of the tags
  *      21       a name table has a length byte of 0 or above 32, or a name that runs        0 the house's,
  *               past its end                                                                1 the site's
  *      22       the tag is above 65533 or has no name                                       0
@@ -320,7 +354,9 @@
  *               under an intersect, an except or a not
  *      36       the start is not below n                                                    0
  *
- * Numbers 1 to 4 are of job files, which no function here reads.
+ * Numbers 1 to 4 are of job files, which no function here reads; the program picklist does. A job has the numbers of a call of gz_page: a
+ * tree, a query, the number of variables and, under the mark 20565, a party and three numbers a node. A job with the older mark, 20564,
+ * names no party and has two numbers a node, at most 512: all of its nodes are common.
  */
 #ifndef GEZNAURI_H
 #define GEZNAURI_H
@@ -332,8 +368,8 @@
 /* The version of this header and of the archive that it describes. GZ_VERSION_MAJOR is counted up, and MINOR set to 0, where a
    program that was written to the header before may break: another reply to the same call, a refusal of what was accepted or the
    reverse, another type, size or name. GZ_VERSION_MINOR is counted up where something is added and all else is as it was. */
-#define GZ_VERSION_MAJOR 3
-#define GZ_VERSION_MINOR 2
+#define GZ_VERSION_MAJOR 4
+#define GZ_VERSION_MINOR 0
 
 #ifdef __cplusplus
 extern "C" {
@@ -352,6 +388,12 @@ typedef struct {
     uint16_t number, place;
     size_t count;
 } gz_image_reply;
+
+/* The reply to the making of a seen tree: number and place as above, and how many numbers the tree has. Of a refused call, count is 0. */
+typedef struct {
+    uint16_t number, place;
+    size_t count;
+} gz_made_reply;
 
 /* The reply to a page call: number and place as above, how many rows it wrote, and whether there is an answer after them. Of
    a refused call, count is 0 and more is false. */
@@ -401,39 +443,47 @@ typedef struct {
 
 /* 11  FUNCTIONS */
 
-/* The check of a tree table: refusals 5 to 7. Time in proportion to tree_len. */
+/* The check of a shared tree table: refusals 5, 6, 7 and 30. Time in proportion to tree_len. */
 gz_reply gz_check_tree(const uint16_t *tree, size_t tree_len);
+
+/* The tree that a party sees of a shared table. table_len is 2 n or more; 512 numbers have room for every tree's. Refusals 5, 6, 7, 30, 31
+   and 20.
+   Accepted, the first count numbers of `table`, 2 n of them, are the seen tree, parent and tag of each node, and all later numbers are as
+   they were; refused, all of `table` is. Time in proportion to tree_len. With owner 0 laid behind each node's two numbers, what is
+   written is a table of which either party sees all, and gets the replies that the party gets from the shared one. */
+gz_made_reply gz_seen(const uint16_t *tree, size_t tree_len, uint16_t party, uint16_t *table, size_t table_len);
 
 /* The check of a query table with its number of variables, 0 to 3: refusals 8 to 15. Time in proportion to query_len. */
 gz_reply gz_check_query(const uint16_t *query, size_t query_len, uint16_t columns);
 
 /* The nodes that the node set `from` reaches by the query: its forward image. nodes[k] is the node assigned to variable k, so
-   that nodes_len is columns (NULL and 0 for a query without variables). from_len is n; to_len is n or more. Refusals 5 to 20.
+   that nodes_len is columns (NULL and 0 for a query without variables). from_len is n; to_len is n or more. Refusals 5 to 7, 30, 31 and
+   8 to 20.
    Accepted, the first n bytes of `to` are the image, all later bytes are as they were, and count is the number of nodes in the
    image, 0 to n; refused, all of `to` is as it was.
    A query without intersect and except takes time in proportion to its entries times n, however it nests; intersect and
    except evaluate their operands once for each start node; where one stands inside an operand of another, behind a
    composition or in a filter, each such one takes up to n times as long. */
-gz_image_reply gz_forwards(const uint16_t *tree, size_t tree_len, const uint16_t *query, size_t query_len, uint16_t columns,
-                           const uint16_t *nodes, size_t nodes_len, const uint8_t *from, size_t from_len, uint8_t *to,
+gz_image_reply gz_forwards(const uint16_t *tree, size_t tree_len, uint16_t party, const uint16_t *query, size_t query_len,
+                           uint16_t columns, const uint16_t *nodes, size_t nodes_len, const uint8_t *from, size_t from_len, uint8_t *to,
                            size_t to_len);
 
 /* The nodes that reach the node set `from` by the query: its backward image. All else, count too, is as for gz_forwards. */
-gz_image_reply gz_backwards(const uint16_t *tree, size_t tree_len, const uint16_t *query, size_t query_len, uint16_t columns,
-                            const uint16_t *nodes, size_t nodes_len, const uint8_t *from, size_t from_len, uint8_t *to,
+gz_image_reply gz_backwards(const uint16_t *tree, size_t tree_len, uint16_t party, const uint16_t *query, size_t query_len,
+                            uint16_t columns, const uint16_t *nodes, size_t nodes_len, const uint8_t *from, size_t from_len, uint8_t *to,
                             size_t to_len);
 
-/* All pairs of the query, under the assignment `nodes`: the relation table. table_len is n * n or more. Refusals 5 to 17 and
-   20. Accepted, the first n * n bytes of `table` are the relation, the pair (x, y) at x * n + y, and all later bytes are as
+/* All pairs of the query, under the assignment `nodes`: the relation table. table_len is n * n or more. Refusals 5 to 7, 30, 31, 8 to 17
+   and 20. Accepted, the first n * n bytes of `table` are the relation, the pair (x, y) at x * n + y, and all later bytes are as
    they were; refused, all of `table` is. One evaluation for each of the n start nodes. */
-gz_reply gz_pairs(const uint16_t *tree, size_t tree_len, const uint16_t *query, size_t query_len, uint16_t columns,
+gz_reply gz_pairs(const uint16_t *tree, size_t tree_len, uint16_t party, const uint16_t *query, size_t query_len, uint16_t columns,
                   const uint16_t *nodes, size_t nodes_len, uint8_t *table, size_t table_len);
 
-/* The same pairs in bits. words_len is 4 n or more; 1,024 words have room for every tree's. Refusals 5 to 17 and 20.
+/* The same pairs in bits. words_len is 4 n or more; 1,024 words have room for every tree's. Refusals as of gz_pairs.
    Accepted, the first 4 n words of `words` are the relation, the pair (x, y) as bit y % 64 of word 4 x + y / 64, and all later words
    are as they were; refused, all of `words` is. Whole tables are combined: a step takes time in proportion to n, and a composition of
    two paths that are no steps at most n * n, however the query nests. */
-gz_reply gz_pairs_bits(const uint16_t *tree, size_t tree_len, const uint16_t *query, size_t query_len, uint16_t columns,
+gz_reply gz_pairs_bits(const uint16_t *tree, size_t tree_len, uint16_t party, const uint16_t *query, size_t query_len, uint16_t columns,
                        const uint16_t *nodes, size_t nodes_len, uint64_t *words, size_t words_len);
 
 /* A relation among n nodes, from bytes to bits. n is 1 to 256, table_len n * n, and words_len 4 n or more. Refusals 5, 18, 19 and
@@ -446,23 +496,23 @@ gz_reply gz_pack(uint16_t n, const uint8_t *table, size_t table_len, uint64_t *w
    of `table` is. What gz_pack made comes back as it was, and the reverse. Time in proportion to n * n. */
 gz_reply gz_unpack(uint16_t n, const uint64_t *words, size_t words_len, uint8_t *table, size_t table_len);
 
-/* The next page of answers. columns is 1 to 3, and rows has room for rows_len / columns rows, at least one. Refusals 5 to 15,
-   17 and 20; 17 looks at the first `columns` numbers of a begun cursor only.
+/* The next page of answers. columns is 1 to 3, and rows has room for rows_len / columns rows, at least one. Refusals 5 to 7, 30,
+   31, 8 to 15, 17 and 20; 17 looks at the first `columns` numbers of a begun cursor only.
    Accepted, count rows stand at the front of `rows`, `columns` numbers each: the first answers after the cursor's row, as
    many as there are and as there is whole room for; all later numbers are as they were. more is true exactly if there is an
    answer after them. The cursor is at the last row written, with begun 1, its numbers at or above columns as they were; where
    count is 0 all of it is as it was, begun too. Refused, the cursor and all of `rows` are as they were.
    One evaluation for each row tried, at most n to the power of columns. */
-gz_page_reply gz_page(const uint16_t *tree, size_t tree_len, const uint16_t *query, size_t query_len, uint16_t columns,
+gz_page_reply gz_page(const uint16_t *tree, size_t tree_len, uint16_t party, const uint16_t *query, size_t query_len, uint16_t columns,
                       gz_cursor *cursor, uint16_t *rows, size_t rows_len);
 
 /* The same page, found variable by variable, of a query that keeps the rule of section 5. It is lent what gz_page is lent. Refusals 5
-   to 15, 29, 17 and 20, in this order: 29 is told before cursor and buffer are looked at.
+   to 7, 30, 31, 8 to 15, 29, 17 and 20, in this order: 29 is told before cursor and buffer are looked at.
    Accepted, the cursor and all of `rows` are as gz_page would leave them, count and more are as it would reply, and evaluations is the
    number of section 5, at most 6 n (count + 1). Refused, the cursor and all of `rows` are as they were, and evaluations is 0.
    The check of the rule takes time in proportion to query_len. */
-gz_quick_reply gz_quick_page(const uint16_t *tree, size_t tree_len, const uint16_t *query, size_t query_len, uint16_t columns,
-                             gz_cursor *cursor, uint16_t *rows, size_t rows_len);
+gz_quick_reply gz_quick_page(const uint16_t *tree, size_t tree_len, uint16_t party, const uint16_t *query, size_t query_len,
+                             uint16_t columns, gz_cursor *cursor, uint16_t *rows, size_t rows_len);
 
 /* The name of a tag. Refusals 21 and 22; both tables are looked at before the tag. Accepted, *name is the part of the house's
    or the site's table that is the name, without its length byte; refused, *name is the empty part at the start of the
@@ -478,20 +528,21 @@ gz_reply gz_name(const uint8_t *house, size_t house_len, const uint8_t *site, si
 gz_read_reply gz_read(const uint8_t *text, size_t text_len, const uint8_t *house, size_t house_len, const uint8_t *site,
                       size_t site_len, uint16_t *query, size_t query_len);
 
-/* The index of a tree, and the list of its tags. next_len is n or more, and tags_len three times the number of tags or more; 256
-   and 768 numbers have room for every tree's. Refusals 5 to 7, and 20 where either buffer is too short.
+/* The index of the tree that a party sees, and the list of its tags. next_len is n or more, and tags_len three times the number of tags or
+   more; 256 and 768 numbers have room for every tree's. Refusals 5 to 7, 30, 31, and 20 where either buffer is too short.
    Accepted, the first `next` numbers of `next`, n of them, are the index, the first `tags` numbers of `tags` are the list, three
    for each tag, and all later numbers of both are as they were; refused, all of both is. Time in proportion to n times the number
    of tags. */
-gz_index_reply gz_index(const uint16_t *tree, size_t tree_len, uint16_t *next, size_t next_len, uint16_t *tags, size_t tags_len);
+gz_index_reply gz_index(const uint16_t *tree, size_t tree_len, uint16_t party, uint16_t *next, size_t next_len, uint16_t *tags,
+                        size_t tags_len);
 
 /* The descendants of the node `start` that have the tag, by following the index `next`. next_len is n; to_len is n or more; tag is
-   any number. Refusals 5 to 7, 36, 27 and 20, in this order.
+   any number. Refusals 5 to 7, 30, 31, 36, 27 and 20, in this order.
    Accepted, the first n bytes of `to` are the set of the nodes that the chain meets, all later bytes are as they were, and count is
    the number of these nodes; refused, all of `to` is as it was. Time in proportion to n; of the index one number is read for each
    node of the answer. */
-gz_image_reply gz_descendants(const uint16_t *tree, size_t tree_len, const uint16_t *next, size_t next_len, uint16_t start,
-                              uint16_t tag, uint8_t *to, size_t to_len);
+gz_image_reply gz_descendants(const uint16_t *tree, size_t tree_len, uint16_t party, const uint16_t *next, size_t next_len,
+                              uint16_t start, uint16_t tag, uint8_t *to, size_t to_len);
 
 #ifdef __cplusplus
 }

@@ -1,6 +1,7 @@
 /* Calls every function of include/geznauri.h as a C program does: with sound tables and, for each number of refusal, with a
    damaged one. Most tables are of the teaching warehouse, and their results are worked out by hand; quick pages are held against
-   pages besides. Buffers stand in memory that is filled with a pattern, and the whole of it is compared. Prints what differs; the
+   pages besides. Tree tables are written with two numbers a node where every node is common, and lent to party 1; two firms over one
+   table come last. Buffers stand in memory that is filled with a pattern, and the whole of it is compared. Prints what differs; the
    status is 1 if anything does. */
 #include "geznauri.h"
 #include <stdio.h>
@@ -9,6 +10,8 @@
 _Static_assert(sizeof(gz_reply) == 4 && offsetof(gz_reply, number) == 0 && offsetof(gz_reply, place) == 2, "gz_reply");
 _Static_assert(sizeof(gz_image_reply) == 16 && offsetof(gz_image_reply, number) == 0 && offsetof(gz_image_reply, place) == 2, "gz_image_reply");
 _Static_assert(offsetof(gz_image_reply, count) == 8, "gz_image_reply");
+_Static_assert(sizeof(gz_made_reply) == 16 && offsetof(gz_made_reply, number) == 0 && offsetof(gz_made_reply, place) == 2, "gz_made_reply");
+_Static_assert(offsetof(gz_made_reply, count) == 8, "gz_made_reply");
 _Static_assert(sizeof(gz_page_reply) == 24 && offsetof(gz_page_reply, number) == 0 && offsetof(gz_page_reply, place) == 2, "gz_page_reply");
 _Static_assert(offsetof(gz_page_reply, count) == 8 && offsetof(gz_page_reply, more) == 16, "gz_page_reply");
 _Static_assert(sizeof(gz_quick_reply) == 32 && offsetof(gz_quick_reply, number) == 0 && offsetof(gz_quick_reply, place) == 2, "gz_quick_reply");
@@ -21,8 +24,8 @@ _Static_assert(offsetof(gz_index_reply, next) == 8 && offsetof(gz_index_reply, t
 _Static_assert(sizeof(gz_cursor) == 8 && offsetof(gz_cursor, begun) == 0 && offsetof(gz_cursor, last) == 2, "gz_cursor");
 _Static_assert(sizeof(gz_part) == 16 && offsetof(gz_part, start) == 0 && offsetof(gz_part, length) == 8, "gz_part");
 _Static_assert(sizeof(bool) == 1 && sizeof(size_t) == 8, "bool and size_t");
-#if GZ_VERSION_MAJOR != 3 || GZ_VERSION_MINOR < 2
-#error "this program is written to version 3.2 of the header"
+#if GZ_VERSION_MAJOR != 4
+#error "this program is written to version 4.0 of the header"
 #endif
 
 #define PATTERN 0xA5
@@ -55,12 +58,60 @@ static const uint16_t child[] = {0, 1, 0, 65535};
 static const uint16_t child_3[] = {0, 1, 0, 3};
 static const uint16_t following[] = {0, 7, 0, 65535};
 
+/* A shared tree table, and the party that it is lent to; which node the party sees is worked out where it is written. */
+struct shared {
+    uint16_t numbers[3 * 257 + 1];
+    size_t length;
+    uint16_t party;
+};
+#define TABLE_OF(t) ((t).length == 0 ? NULL : (t).numbers), (t).length
+#define SHARED(t) TABLE_OF(t), (t).party
+
+/* Every node common: owner 0 is laid over a table of two numbers a node. A number too many stays one. */
+static struct shared common(const uint16_t *table, size_t length)
+{
+    struct shared t = {.party = 1};
+    for (size_t i = 0; i < length; i++) {
+        t.numbers[t.length++] = table[i];
+        if (i % 2 == 1)
+            t.numbers[t.length++] = 0;
+    }
+    return t;
+}
+
+/* Three numbers a node. */
+static struct shared shared_with(uint16_t party, const uint16_t *table, size_t length)
+{
+    struct shared t = {.length = length, .party = party};
+    if (length != 0)
+        memcpy(t.numbers, table, length * sizeof *table);
+    return t;
+}
+
+/* The seen tree that is due, where a call is accepted. */
+static void sees(const char *what, struct shared t, size_t room, uint16_t number, uint16_t place, const uint16_t *seen, size_t seen_len)
+{
+    uint16_t memory[MARGIN + 600 + MARGIN], wanted[LENGTH(memory)];
+    memset(memory, PATTERN, sizeof memory);
+    memset(wanted, PATTERN, sizeof wanted);
+    if (number == 0)
+        memcpy(wanted + MARGIN, seen, seen_len * sizeof *seen);
+    gz_made_reply r = gz_seen(SHARED(t), room == 0 ? NULL : memory + MARGIN, room);
+    expect(r.number == number && r.place == place, "gz_seen", what, "reply");
+    expect(r.count == (number == 0 ? seen_len : 0), "gz_seen", what, "count");
+    expect(memcmp(memory, wanted, sizeof memory) == 0, "gz_seen", what, "buffer");
+}
+
 /* The checks of tables. */
 
+/* A table that is common to both parties: each sees all of it. */
 static void tree(const char *what, const uint16_t *table, size_t length, uint16_t number, uint16_t place)
 {
-    gz_reply r = gz_check_tree(table, length);
+    struct shared t = common(table, length);
+    gz_reply r = gz_check_tree(TABLE_OF(t));
     expect(r.number == number && r.place == place, "gz_check_tree", what, "reply");
+    for (t.party = 1; t.party <= 2; t.party++)
+        sees(what, t, 600, number, place, table, length);
 }
 
 static void trees(void)
@@ -123,7 +174,7 @@ static void queries(void)
 
 /* Images and pairs. */
 
-typedef gz_image_reply image_function(const uint16_t *, size_t, const uint16_t *, size_t, uint16_t, const uint16_t *, size_t,
+typedef gz_image_reply image_function(const uint16_t *, size_t, uint16_t, const uint16_t *, size_t, uint16_t, const uint16_t *, size_t,
                                       const uint8_t *, size_t, uint8_t *, size_t);
 
 static const struct direction {
@@ -131,18 +182,24 @@ static const struct direction {
     image_function *function;
 } forwards = {"gz_forwards", gz_forwards}, backwards = {"gz_backwards", gz_backwards};
 
-/* What an evaluation is lent beside its node set and its buffer. */
+/* What an evaluation is lent beside its node set and its buffer; n is how many nodes the party sees. */
 struct lent {
-    const uint16_t *tree;
-    size_t tree_len;
+    struct shared tree;
+    size_t n;
     const uint16_t *query;
     size_t query_len;
     uint16_t columns;
     const uint16_t *nodes;
     size_t nodes_len;
 };
-#define LENT(...) (struct lent){SLICE(warehouse), __VA_ARGS__}
-#define ON(...) (struct lent){__VA_ARGS__}
+
+static struct lent on(const uint16_t *tree, size_t tree_len, const uint16_t *query, size_t query_len, uint16_t columns,
+                      const uint16_t *nodes, size_t nodes_len)
+{
+    return (struct lent){common(tree, tree_len), tree_len / 2, query, query_len, columns, nodes, nodes_len};
+}
+#define LENT(...) on(SLICE(warehouse), __VA_ARGS__)
+#define ON(...) on(__VA_ARGS__)
 
 /* Bytes are written as digits. */
 static size_t bytes(uint8_t *to, const char *digits)
@@ -170,7 +227,7 @@ static void image(const struct direction *d, const char *what, struct lent l, co
     memset(memory, PATTERN, sizeof memory);
     memset(wanted, PATTERN, sizeof wanted);
     bytes(wanted + MARGIN, result);
-    gz_image_reply r = d->function(l.tree, l.tree_len, l.query, l.query_len, l.columns, l.nodes, l.nodes_len, set, length, memory + MARGIN, room);
+    gz_image_reply r = d->function(SHARED(l.tree), l.query, l.query_len, l.columns, l.nodes, l.nodes_len, set, length, memory + MARGIN, room);
     expect(r.number == number && r.place == place, d->name, what, "reply");
     expect(r.count == ones(result), d->name, what, "count");
     expect(memcmp(memory, wanted, sizeof memory) == 0, d->name, what, "buffer");
@@ -257,7 +314,7 @@ static void relation(const char *what, struct lent l, size_t room, uint16_t numb
     memset(memory, PATTERN, sizeof memory);
     memset(wanted, PATTERN, sizeof wanted);
     bytes(wanted + MARGIN, result);
-    gz_reply r = gz_pairs(l.tree, l.tree_len, l.query, l.query_len, l.columns, l.nodes, l.nodes_len, memory + MARGIN, room);
+    gz_reply r = gz_pairs(SHARED(l.tree), l.query, l.query_len, l.columns, l.nodes, l.nodes_len, memory + MARGIN, room);
     expect(r.number == number && r.place == place, "gz_pairs", what, "reply");
     expect(memcmp(memory, wanted, sizeof memory) == 0, "gz_pairs", what, "buffer");
 }
@@ -314,8 +371,8 @@ static void bit_relation(const char *what, struct lent l, size_t room, uint16_t 
     uint8_t cells[64];
     fill_words();
     if (bytes(cells, result) != 0)
-        put_bits(words_wanted + MARGIN, cells, l.tree_len / 2);
-    gz_reply r = gz_pairs_bits(l.tree, l.tree_len, l.query, l.query_len, l.columns, l.nodes, l.nodes_len,
+        put_bits(words_wanted + MARGIN, cells, l.n);
+    gz_reply r = gz_pairs_bits(SHARED(l.tree), l.query, l.query_len, l.columns, l.nodes, l.nodes_len,
                                room == 0 ? NULL : words_memory + MARGIN, room);
     expect(r.number == number && r.place == place, "gz_pairs_bits", what, "reply");
     expect(memcmp(words_memory, words_wanted, sizeof words_memory) == 0, "gz_pairs_bits", what, "buffer");
@@ -501,12 +558,12 @@ static void both_forms(void)
             for (size_t y = 0; y < n; y++)
                 cells_lent[x * n + y] = x < y;
         put_bits(words_wanted + MARGIN, cells_lent, n);
-        gz_reply r = gz_pairs_bits(l.tree, l.tree_len, l.query, l.query_len, 0, NULL, 0, words_memory + MARGIN, 1030);
+        gz_reply r = gz_pairs_bits(SHARED(l.tree), l.query, l.query_len, 0, NULL, 0, words_memory + MARGIN, 1030);
         expect(r.number == 0 && r.place == 0, "gz_pairs_bits", "a chain", "reply");
         expect(memcmp(words_memory, words_wanted, sizeof words_memory) == 0, "gz_pairs_bits", "a chain", "buffer");
         fill_cells();
         memcpy(cells_wanted + MARGIN, cells_lent, n * n);
-        gz_pairs(l.tree, l.tree_len, l.query, l.query_len, 0, NULL, 0, cells_memory + MARGIN, n * n);
+        gz_pairs(SHARED(l.tree), l.query, l.query_len, 0, NULL, 0, cells_memory + MARGIN, n * n);
         expect(memcmp(cells_memory, cells_wanted, sizeof cells_memory) == 0, "gz_pairs", "a chain", "buffer");
         memcpy(words_lent, words_wanted + MARGIN, 4 * n * sizeof *words_lent);
         packing("a chain", (uint16_t)n, n * n, 4 * n, 0, 0);
@@ -520,8 +577,8 @@ static void both_forms(void)
 static gz_quick_reply paged(bool quickly, struct lent l, gz_cursor *cursor, uint16_t *rows, size_t room)
 {
     if (quickly)
-        return gz_quick_page(l.tree, l.tree_len, l.query, l.query_len, l.columns, cursor, rows, room);
-    gz_page_reply r = gz_page(l.tree, l.tree_len, l.query, l.query_len, l.columns, cursor, rows, room);
+        return gz_quick_page(SHARED(l.tree), l.query, l.query_len, l.columns, cursor, rows, room);
+    gz_page_reply r = gz_page(SHARED(l.tree), l.query, l.query_len, l.columns, cursor, rows, room);
     return (gz_quick_reply){r.number, r.place, r.count, r.more, 0};
 }
 
@@ -723,7 +780,8 @@ static void breaks(const char *what, const uint16_t *query, size_t length, uint1
     longer[length] = 8, longer[length + 1] = last - 1;
     gz_cursor cursor = {0};
     quick(what, LENT(longer, length + 4, columns, NOTHING), &cursor, 3, UNCOUNTED(15, last), NOTHING, (gz_cursor){0});
-    expect(gz_page(SLICE(warehouse), query, length, columns, &cursor, rows, 3).number == 0, "gz_page", what, "reply");
+    struct shared t = common(SLICE(warehouse));
+    expect(gz_page(SHARED(t), query, length, columns, &cursor, rows, 3).number == 0, "gz_page", what, "reply");
 }
 
 /* Each kind that can break the rule, by each variable, in either operand; below other entries; the lowest of several. */
@@ -789,7 +847,7 @@ static uint16_t every_row[3 * MOST_ROWS];
 static size_t every_answer(struct lent l)
 {
     gz_cursor cursor = {0};
-    gz_page_reply r = gz_page(l.tree, l.tree_len, l.query, l.query_len, l.columns, &cursor, every_row, LENGTH(every_row));
+    gz_page_reply r = gz_page(SHARED(l.tree), l.query, l.query_len, l.columns, &cursor, every_row, LENGTH(every_row));
     return r.number == 0 && !r.more ? r.count : 0;
 }
 
@@ -797,7 +855,7 @@ static size_t every_answer(struct lent l)
 static void same_page(const char *what, struct lent l, size_t answers, gz_cursor lent_cursor, size_t room)
 {
     static uint16_t plainly[MARGIN + 3 * MOST_ROWS + MARGIN], quickly[LENGTH(plainly)];
-    size_t n = l.tree_len / 2, k = l.columns, first = 0, evaluations = 0;
+    size_t n = l.n, k = l.columns, first = 0, evaluations = 0;
     gz_cursor plain_cursor = lent_cursor, quick_cursor = lent_cursor;
     const uint16_t *before = lent_cursor.begun ? lent_cursor.last : NULL;
     memset(plainly, PATTERN, sizeof plainly);
@@ -825,7 +883,7 @@ static void same_page(const char *what, struct lent l, size_t answers, gz_cursor
 /* The same from every cursor, fresh and at each row, with room for one row, for two and a part of one, and for all. */
 static void same_pages(const char *what, struct lent l)
 {
-    size_t n = l.tree_len / 2, k = l.columns, answers = every_answer(l), rows = k == 1 ? n : k == 2 ? n * n : n * n * n;
+    size_t n = l.n, k = l.columns, answers = every_answer(l), rows = k == 1 ? n : k == 2 ? n * n : n * n * n;
     size_t rooms[] = {k, 3 * k - 1, 3 * MOST_ROWS};
     for (size_t i = 0; i < LENGTH(rooms); i++) {
         same_page(what, l, answers, CURSOR(0, 900, 900, 900), rooms[i]);
@@ -1431,8 +1489,8 @@ struct room {
 #define MADE(next, tags) (gz_index_reply){0, 0, next, tags}
 #define UNMADE(number, place) (gz_index_reply){number, place, 0, 0}
 
-static void making(const char *what, const uint16_t *table, size_t length, struct room room, gz_index_reply reply, const uint16_t *next,
-                   const uint16_t *tags)
+static void making_of(const char *what, struct shared t, struct room room, gz_index_reply reply, const uint16_t *next,
+                      const uint16_t *tags)
 {
     uint16_t next_memory[MARGIN + 300 + MARGIN], next_wanted[LENGTH(next_memory)];
     uint16_t tags_memory[MARGIN + 800 + MARGIN], tags_wanted[LENGTH(tags_memory)];
@@ -1444,12 +1502,18 @@ static void making(const char *what, const uint16_t *table, size_t length, struc
         memcpy(next_wanted + MARGIN, next, reply.next * sizeof *next);
         memcpy(tags_wanted + MARGIN, tags, reply.tags * sizeof *tags);
     }
-    gz_index_reply r = gz_index(table, length, room.next == 0 ? NULL : next_memory + MARGIN, room.next,
+    gz_index_reply r = gz_index(SHARED(t), room.next == 0 ? NULL : next_memory + MARGIN, room.next,
                                 room.tags == 0 ? NULL : tags_memory + MARGIN, room.tags);
     expect(r.number == reply.number && r.place == reply.place, "gz_index", what, "reply");
     expect(r.next == reply.next && r.tags == reply.tags, "gz_index", what, "next or tags");
     expect(memcmp(next_memory, next_wanted, sizeof next_memory) == 0, "gz_index", what, "index");
     expect(memcmp(tags_memory, tags_wanted, sizeof tags_memory) == 0, "gz_index", what, "list of tags");
+}
+
+static void making(const char *what, const uint16_t *table, size_t length, struct room room, gz_index_reply reply, const uint16_t *next,
+                   const uint16_t *tags)
+{
+    making_of(what, common(table, length), room, reply, next, tags);
 }
 
 /* An index that is made where the room just suffices and where there is more, and is not made where either buffer has less. */
@@ -1523,17 +1587,23 @@ static void indexes(void)
 
 /* Searches by an index. */
 
-static void descend(const char *what, const uint16_t *table, size_t table_len, const uint16_t *next, size_t next_len, uint16_t start,
-                    uint16_t tag, size_t room, uint16_t number, uint16_t place, const char *result)
+static void descend_in(const char *what, struct shared t, const uint16_t *next, size_t next_len, uint16_t start, uint16_t tag, size_t room,
+                       uint16_t number, uint16_t place, const char *result)
 {
     uint8_t memory[MARGIN + 300 + MARGIN], wanted[sizeof memory];
     memset(memory, PATTERN, sizeof memory);
     memset(wanted, PATTERN, sizeof wanted);
     bytes(wanted + MARGIN, result);
-    gz_image_reply r = gz_descendants(table, table_len, next, next_len, start, tag, room == 0 ? NULL : memory + MARGIN, room);
+    gz_image_reply r = gz_descendants(SHARED(t), next, next_len, start, tag, room == 0 ? NULL : memory + MARGIN, room);
     expect(r.number == number && r.place == place, "gz_descendants", what, "reply");
     expect(r.count == ones(result), "gz_descendants", what, "count");
     expect(memcmp(memory, wanted, sizeof memory) == 0, "gz_descendants", what, "buffer");
+}
+
+static void descend(const char *what, const uint16_t *table, size_t table_len, const uint16_t *next, size_t next_len, uint16_t start,
+                    uint16_t tag, size_t room, uint16_t number, uint16_t place, const char *result)
+{
+    descend_in(what, common(table, table_len), next, next_len, start, tag, room, number, place, result);
 }
 #define OWN SLICE(warehouse), SLICE(warehouse_next)
 #define BY(...) SLICE(warehouse), NUMBERS(__VA_ARGS__)
@@ -1598,7 +1668,8 @@ static void descendants_of_chain(void)
     uint16_t table[512], next[256], tags[3], room = 256;
     for (uint16_t x = 0; x < 256; x++)
         table[2 * x] = x == 0 ? 65535 : x - 1, table[2 * x + 1] = 65533;
-    gz_index_reply r = gz_index(SLICE(table), SLICE(next), SLICE(tags));
+    struct shared t = common(SLICE(table));
+    gz_index_reply r = gz_index(SHARED(t), SLICE(next), SLICE(tags));
     expect(r.number == 0 && r.next == 256 && r.tags == 3, "gz_index", "a chain", "reply");
     for (uint16_t start = 0; start < 256; start++) {
         char all[257] = "";
@@ -1606,6 +1677,463 @@ static void descendants_of_chain(void)
             all[y] = y > start ? '1' : '0';
         descend("a chain", SLICE(table), SLICE(next), start, 65533, room, 0, 0, all);
     }
+}
+
+/* Two firms over one table. Each sees the common nodes and its own, below seen ones; hidden nodes are of all owners.
+
+       0 hall
+       |-- 1 bay
+       |   |-- 2 pallet  of 1
+       |   `-- 3 pallet  of 2
+       |-- 4 bay  of 2
+       |   `-- 5 pallet
+       |-- 6 bay  of 1
+       |   |-- 7 pallet  of 1
+       |   `-- 8 pallet
+       `-- 9 bay
+           |-- 10 pallet  of 2
+           `-- 11 pallet  of 2
+
+   Party 1 sees 0, 1, 2, 6, 7, 8 and 9 as 0 to 6, and party 2 sees 0, 1, 3, 4, 5, 9, 10 and 11 as 0 to 7. */
+static const uint16_t firms[] = {65535, 1, 0, 0, 2, 0, 1, 3, 1, 1, 3, 2, 0, 2, 2, 4, 3, 0,
+                                 0, 2, 1, 6, 3, 1, 6, 3, 0, 0, 2, 0, 9, 3, 2, 9, 3, 2};
+static const uint16_t seen_by_1[] = {65535, 1, 0, 2, 1, 3, 0, 2, 3, 3, 3, 3, 0, 2};
+static const uint16_t seen_by_2[] = {65535, 1, 0, 2, 1, 3, 0, 2, 3, 3, 0, 2, 5, 3, 5, 3};
+/* the hall of the header, of which both see one tree */
+static const uint16_t halves[] = {65535, 1, 0, 0, 2, 0, 1, 3, 1, 1, 3, 2, 0, 2, 2, 4, 3, 2, 0, 2, 1, 6, 3, 0};
+#define PARTY(p) shared_with(p, SLICE(firms))
+
+static struct lent for_party(uint16_t party, const uint16_t *query, size_t query_len, uint16_t columns, const uint16_t *nodes,
+                             size_t nodes_len)
+{
+    return (struct lent){PARTY(party), party == 1 ? 7 : 8, query, query_len, columns, nodes, nodes_len};
+}
+
+/* A seen tree that is made where the room just suffices and where there is more, and is not made where there is less. */
+static void seen_as(const char *what, struct shared t, const uint16_t *seen, size_t seen_len)
+{
+    sees(what, t, seen_len, 0, 0, seen, seen_len);
+    sees(what, t, seen_len + 1, 0, 0, seen, seen_len);
+    sees(what, t, 600, 0, 0, seen, seen_len);
+    sees(what, t, seen_len - 1, 20, 0, NOTHING);
+    sees(what, t, 1, 20, 0, NOTHING);
+    sees(what, t, 0, 20, 0, NOTHING);
+    gz_reply r = gz_check_tree(TABLE_OF(t));
+    expect(r.number == 0 && r.place == 0, "gz_check_tree", what, "reply");
+}
+
+static void seen_trees(void)
+{
+    uint16_t table[3 * 256], seen[512];
+    seen_as("firms, party 1", PARTY(1), SLICE(seen_by_1));
+    seen_as("firms, party 2", PARTY(2), SLICE(seen_by_2));
+    for (uint16_t party = 1; party <= 2; party++) {
+        uint16_t other = 3 - party;
+        seen_as("one tree for both", shared_with(party, SLICE(halves)), NUMBERS(65535, 1, 0, 2, 1, 3, 0, 2, 3, 3));
+        seen_as("one node", shared_with(party, NUMBERS(65535, 65533, 0)), NUMBERS(65535, 65533));
+        seen_as("a document node", shared_with(party, NUMBERS(65535, 65534, 0, 0, 7, other)), NUMBERS(65535, 65534));
+        seen_as("below a hidden node",
+                shared_with(party, NUMBERS(65535, 1, 0, 0, 2, other, 1, 3, 0, 2, 4, party, 1, 5, party, 0, 6, party)),
+                NUMBERS(65535, 1, 0, 6));
+
+        /* as many nodes as there may be: a chain that is hidden from a node on, the other party's every second child, and its own */
+        for (size_t first = 1; first <= 256; first += 51) {
+            for (size_t x = 0; x < 256; x++) {
+                table[3 * x] = x == 0 ? 65535 : (uint16_t)(x - 1), table[3 * x + 1] = (uint16_t)(x % 5);
+                table[3 * x + 2] = x == first ? other : x % 3 == 0 ? 0 : party;
+                seen[2 * x] = table[3 * x], seen[2 * x + 1] = table[3 * x + 1];
+            }
+            seen_as("a chain", shared_with(party, SLICE(table)), seen, 2 * first);
+        }
+        for (size_t x = 0; x < 256; x++) {
+            table[3 * x] = x == 0 ? 65535 : 0, table[3 * x + 2] = x % 2 == 0 ? 0 : other;
+            seen[x] = x % 2 == 0 ? table[3 * x] : table[3 * (x - 1) + 1];
+        }
+        seen_as("every second child", shared_with(party, SLICE(table)), seen, 256);
+        for (size_t x = 1; x < 256; x++)
+            table[3 * x + 2] = party;
+        for (size_t x = 0; x < 256; x++)
+            seen[2 * x] = table[3 * x], seen[2 * x + 1] = table[3 * x + 1];
+        seen_as("all its own", shared_with(party, SLICE(table)), seen, 512);
+        seen_as("all the other's", shared_with(other, SLICE(table)), seen, 2);
+    }
+}
+
+/* Each party's answers, by hand. Whatever a call is lent is a number of the seen tree. */
+static void two_firms(void)
+{
+    const struct direction *f = &forwards, *b = &backwards;
+    image(f, "following::*, party 1", for_party(1, SLICE(following), 0, NOTHING), "0100000", 7, 0, 0, "0001111");
+    image(f, "following::*, party 2", for_party(2, SLICE(following), 0, NOTHING), "00010000", 8, 0, 0, "00000111");
+    image(b, "following::*, party 1", for_party(1, SLICE(following), 0, NOTHING), "0000010", 40, 0, 0, "0110100");
+    image(b, "following::*, party 2", for_party(2, SLICE(following), 0, NOTHING), "00000100", 40, 0, 0, "01111000");
+    image(f, "child::3, party 1", for_party(1, SLICE(child_3), 0, NOTHING), "1111111", 7, 0, 0, "0010110");
+    image(f, "child::3, party 2", for_party(2, SLICE(child_3), 0, NOTHING), "11111111", 8, 0, 0, "00101011");
+    image(b, "child::3, party 1", for_party(1, SLICE(child_3), 0, NOTHING), "0000110", 7, 0, 0, "0001000");
+    image(b, "child::3, party 2", for_party(2, SLICE(child_3), 0, NOTHING), "00001100", 8, 0, 0, "00010000");
+    image(f, "the last bay with pallets, party 1", for_party(1, SLICE(last_bay), 0, NOTHING), "1111111", 7, 0, 0, "0000000");
+    image(f, "the last bay with pallets, party 2", for_party(2, SLICE(last_bay), 0, NOTHING), "11111111", 8, 0, 0, "00000100");
+    image(f, "bay 3, pallet 5, party 1", for_party(1, SLICE(pallets), 2, NUMBERS(3, 5)), "1111111", 7, 0, 0, "0000010");
+    image(f, "bay 3, pallet 5, party 2", for_party(2, SLICE(pallets), 2, NUMBERS(3, 5)), "11111111", 8, 0, 0, "00000000");
+    image(f, "bay 5, pallet 7, party 2", for_party(2, SLICE(pallets), 2, NUMBERS(5, 7)), "11111111", 8, 0, 0, "00000001");
+
+    relation("child::*, party 1", for_party(1, SLICE(child), 0, NOTHING), 49, 0, 0,
+             "0101001" "0010000" "0000000" "0000110" "0000000" "0000000" "0000000");
+    relation("child::*, party 2", for_party(2, SLICE(child), 0, NOTHING), 64, 0, 0,
+             "01010100" "00100000" "00000000" "00001000" "00000000" "00000011" "00000000" "00000000");
+    bit_relation("child::*, party 1", for_party(1, SLICE(child), 0, NOTHING), 28, 0, 0,
+                 "0101001" "0010000" "0000000" "0000110" "0000000" "0000000" "0000000");
+    bit_relation("child::*, party 2", for_party(2, SLICE(child), 0, NOTHING), 40, 0, 0,
+                 "01010100" "00100000" "00000000" "00001000" "00000000" "00000011" "00000000" "00000000");
+
+    struct lent bays_of_1 = for_party(1, SLICE(pallets), 2, NOTHING), bays_of_2 = for_party(2, SLICE(pallets), 2, NOTHING);
+    gz_cursor cursor = CURSOR(0, 9, 9, 900);
+    page("rows 1 and 2, party 1", bays_of_1, &cursor, 4, ACCEPTED(2, true), NUMBERS(1, 2, 3, 4), AT(3, 4, 900));
+    page("row 3, party 1", bays_of_1, &cursor, 4, ACCEPTED(1, false), NUMBERS(3, 5), AT(3, 5, 900));
+    page("no more rows, party 1", bays_of_1, &cursor, 4, ACCEPTED(0, false), NOTHING, AT(3, 5, 900));
+    cursor = (gz_cursor){0};
+    page("all rows, party 2", bays_of_2, &cursor, 64, ACCEPTED(4, false), NUMBERS(1, 2, 3, 4, 5, 6, 5, 7), AT(5, 7, 0));
+    cursor = (gz_cursor){0};
+    quick("rows 1 and 2, party 1", bays_of_1, &cursor, 4, COUNTED(2, true, 18), NUMBERS(1, 2, 3, 4), AT(3, 4, 0));
+    quick("row 3, party 1", bays_of_1, &cursor, 4, COUNTED(1, false, 5), NUMBERS(3, 5), AT(3, 5, 0));
+    cursor = (gz_cursor){0};
+    quick("all rows, party 2", bays_of_2, &cursor, 64, COUNTED(4, false, 33), NUMBERS(1, 2, 3, 4, 5, 6, 5, 7), AT(5, 7, 0));
+    same_pages("party 1", bays_of_1);
+    same_pages("party 2", bays_of_2);
+    same_pages("party 1, three variables", for_party(1, SLICE(pallets), 3, NOTHING));
+    same_pages("party 2, no row", for_party(2, NUMBERS(0, 0, 0, 9), 2, NOTHING));
+
+    const uint16_t next_1[] = {65535, 3, 4, 6, 5, 65535, 65535}, next_2[] = {65535, 3, 4, 5, 6, 65535, 7, 65535};
+    making_of("firms, party 1", PARTY(1), ROOM(7, 9), MADE(7, 9), next_1, (const uint16_t[]){1, 0, 1, 2, 1, 3, 3, 2, 3});
+    making_of("firms, party 2", PARTY(2), ROOM(8, 9), MADE(8, 9), next_2, (const uint16_t[]){1, 0, 1, 2, 1, 3, 3, 2, 4});
+    making_of("firms, party 1, short", PARTY(1), ROOM(6, 9), UNMADE(20, 0), NULL, NULL);
+    making_of("firms, party 1, a short list", PARTY(1), ROOM(7, 8), UNMADE(20, 0), NULL, NULL);
+    making_of("firms, party 2, short", PARTY(2), ROOM(7, 9), UNMADE(20, 0), NULL, NULL);
+    descend_in("pallets of the hall, party 1", PARTY(1), SLICE(next_1), 0, 3, 7, 0, 0, "0010110");
+    descend_in("pallets of the hall, party 2", PARTY(2), SLICE(next_2), 0, 3, 8, 0, 0, "00101011");
+    descend_in("pallets of bay 3, party 1", PARTY(1), SLICE(next_1), 3, 3, 40, 0, 0, "0000110");
+    descend_in("pallets of bay 5, party 2", PARTY(2), SLICE(next_2), 5, 3, 40, 0, 0, "00000011");
+    descend_in("pallets of bay 6, party 1", PARTY(1), SLICE(next_1), 6, 3, 7, 0, 0, "0000000");
+
+    /* a party's numbers are not the other's, nor the table's: refusals judge by what the party sees */
+    descend_in("start 7, party 1", PARTY(1), SLICE(next_1), 7, 3, 7, 36, 0, "");
+    descend_in("start 7, party 2", PARTY(2), SLICE(next_2), 7, 3, 8, 0, 0, "00000000");
+    descend_in("start 8, party 2", PARTY(2), SLICE(next_2), 8, 3, 8, 36, 0, "");
+    descend_in("the other's index", PARTY(1), SLICE(next_2), 0, 3, 7, 27, 0, "");
+    descend_in("the table's index", PARTY(2), NUMBERS(65535, 4, 3, 5, 6, 7, 9, 8, 10, 65535, 11, 65535), 0, 3, 12, 27, 0, "");
+    descend_in("an index of another tag", PARTY(2), NUMBERS(65535, 3, 5, 6, 6, 65535, 7, 65535), 0, 3, 8, 27, 2, "");
+    descend_in("an index past the seen nodes", PARTY(1), NUMBERS(65535, 3, 7, 6, 5, 65535, 65535), 0, 3, 7, 27, 2, "");
+    descend_in("a byte too little, party 1", PARTY(1), SLICE(next_1), 0, 3, 6, 20, 0, "");
+    for (int i = 0; i < 2; i++) {
+        const struct direction *d = i == 0 ? f : b;
+        image(d, "a set of the table's nodes", for_party(1, SLICE(child), 0, NOTHING), "111111111111", 12, 18, 0, "");
+        image(d, "a set of the other's nodes", for_party(1, SLICE(child), 0, NOTHING), "11111111", 8, 18, 0, "");
+        image(d, "variable 1 at node 7", for_party(1, SLICE(pallets), 2, NUMBERS(6, 7)), "1111111", 7, 17, 1, "");
+        image(d, "variable 0 at node 8", for_party(2, SLICE(pallets), 2, NUMBERS(8, 7)), "11111111", 8, 17, 0, "");
+        image(d, "room for 6 bytes", for_party(1, SLICE(child), 0, NOTHING), "1111111", 6, 20, 0, "");
+    }
+    relation("room for 48 bytes", for_party(1, SLICE(child), 0, NOTHING), 48, 20, 0, "");
+    relation("room for 63 bytes", for_party(2, SLICE(child), 0, NOTHING), 63, 20, 0, "");
+    bit_relation("room for 27 words", for_party(1, SLICE(child), 0, NOTHING), 27, 20, 0, "");
+    bit_relation("room for 31 words", for_party(2, SLICE(child), 0, NOTHING), 31, 20, 0, "");
+    for (uint16_t party = 1; party <= 2; party++) {
+        cursor = AT(0, 6 + party, 900);
+        struct lent bays = for_party(party, SLICE(pallets), 2, NOTHING);
+        page("a cursor past the seen nodes", bays, &cursor, 4, REFUSED(17, 1), NOTHING, AT(0, 6 + party, 900));
+        quick("a cursor past the seen nodes", bays, &cursor, 4, UNCOUNTED(17, 1), NOTHING, AT(0, 6 + party, 900));
+    }
+}
+
+/* A shared table or a party that is refused, by every function that takes them alike, whatever else these are lent, also where that is
+   wrong too. Nothing is written. */
+static void refused_by_all(const char *what, struct shared t, uint16_t number, uint16_t place)
+{
+    static const uint16_t sound[] = {0, 1, 0, 65535}, unsound[] = {99, 0, 0};
+    const gz_cursor fresh = {0}, beyond = AT(65535, 65535, 65535);
+    gz_reply r = gz_check_tree(TABLE_OF(t));
+    if (number == 31)
+        expect(r.number == 0 && r.place == 0, "gz_check_tree", what, "reply");
+    else
+        expect(r.number == number && r.place == place, "gz_check_tree", what, "reply");
+    for (int wrong = 0; wrong < 2; wrong++) {
+        struct lent l = {t, 1, wrong ? unsound : sound, wrong ? 3 : 4, wrong ? 9 : 0, wrong ? unsound : NULL, wrong ? 1 : 0};
+        struct lent p = {t, 1, wrong ? unsound : sound, wrong ? 3 : 4, wrong ? 9 : 1, NULL, 0};
+        gz_cursor cursor = wrong ? beyond : fresh;
+        sees(what, t, wrong ? 0 : 600, number, place, NOTHING);
+        image(&forwards, what, l, wrong ? "29" : "1", wrong ? 0 : 256, number, place, "");
+        image(&backwards, what, l, wrong ? "29" : "1", wrong ? 0 : 256, number, place, "");
+        relation(what, l, wrong ? 0 : 64, number, place, "");
+        bit_relation(what, l, wrong ? 0 : 1024, number, place, "");
+        page(what, p, &cursor, wrong ? 0 : 64, REFUSED(number, place), NOTHING, wrong ? beyond : fresh);
+        quick(what, p, &cursor, wrong ? 0 : 64, UNCOUNTED(number, place), NOTHING, wrong ? beyond : fresh);
+        making_of(what, t, wrong ? ROOM(0, 0) : ROOM(300, 800), UNMADE(number, place), NULL, NULL);
+        descend_in(what, t, unsound, wrong ? 3 : 0, wrong ? 900 : 0, 3, wrong ? 0 : 300, number, place, "");
+    }
+}
+
+/* The firms' table with another number at a place. */
+static struct shared but(uint16_t party, size_t at, uint16_t number)
+{
+    struct shared t = PARTY(party);
+    t.numbers[at] = number;
+    return t;
+}
+
+static void refused_tables(void)
+{
+    static const uint16_t parties[] = {0, 3, 4, 255, 256, 257, 258, 32769, 65534, 65535};
+    static const uint16_t owners[] = {3, 4, 255, 256, 257, 258, 65534, 65535};
+    static const uint16_t many[3 * 257 + 1] = {65535};
+    for (uint16_t party = 0; party <= 3; party++) {
+        refused_by_all("no tree", shared_with(party, NOTHING), 5, 0);
+        refused_by_all("one number", shared_with(party, firms, 1), 5, 0);
+        refused_by_all("two numbers", shared_with(party, firms, 2), 5, 0);
+        refused_by_all("two thirds of a node too many", shared_with(party, firms, 35), 5, 0);
+        refused_by_all("a third of a node too many", shared_with(party, firms, 34), 5, 0);
+        refused_by_all("512 numbers", shared_with(party, many, 512), 5, 0);
+        refused_by_all("769 numbers", shared_with(party, many, 769), 5, 0);
+        refused_by_all("257 nodes", shared_with(party, many, 771), 5, 0);
+        /* hidden nodes too, and each check over the whole table before the next */
+        refused_by_all("a parent of another branch", but(party, 3 * 8, 5), 6, 8);
+        refused_by_all("a hidden node's parent", but(party, 3 * 5, 2), 6, 5);
+        refused_by_all("a tag of 65534", but(party, 3 * 5 + 1, 65534), 7, 5);
+        refused_by_all("a tag of 65535", but(party, 3 * 8 + 1, 65535), 7, 8);
+        struct shared t = but(party, 2, 1);
+        t.numbers[3 * 10 + 1] = 65535;
+        refused_by_all("a tag before an owner", t, 7, 10);
+        t.numbers[3 * 11] = 5;
+        refused_by_all("a parent before both", t, 6, 11);
+        /* 30, at every node, the lowest first, and node 0 is common */
+        refused_by_all("a hall of party 1", but(party, 2, 1), 30, 0);
+        refused_by_all("a hall of party 2", but(party, 2, 2), 30, 0);
+        for (size_t i = 0; i < LENGTH(owners); i++)
+            for (uint16_t x = 0; x < 12; x++) {
+                struct shared o = but(party, 3 * x + 2, owners[i]);
+                refused_by_all("an owner above 2", o, 30, x);
+                o.numbers[35] = 3;
+                refused_by_all("the lowest owner above 2", o, 30, x);
+            }
+        refused_by_all("two numbers a node", shared_with(party, SLICE(warehouse)), 6, 1);
+    }
+    for (size_t i = 0; i < LENGTH(parties); i++) {
+        refused_by_all("a party that there is not", PARTY(parties[i]), 31, 0);
+        refused_by_all("a party that there is not, one node", shared_with(parties[i], NUMBERS(65535, 1, 0)), 31, 0);
+    }
+}
+
+/* Isolation. What a call leaves: its reply, and the memory with its buffers and its cursor. */
+struct left {
+    size_t reply[4];
+    gz_cursor cursor;
+    uint8_t memory[66000];
+};
+static struct left left_here, left_there;
+enum { SEEN, FORWARDS, BACKWARDS, PAIRS, BITS, PAGE, QUICK, INDEX, DESCENDANTS, FUNCTIONS };
+static const char *const function_names[] = {"gz_seen",  "gz_forwards",   "gz_backwards", "gz_pairs",      "gz_pairs_bits",
+                                             "gz_page",  "gz_quick_page", "gz_index",     "gz_descendants"};
+
+/* All else that a call is lent. */
+struct besides {
+    uint16_t query[64], columns, nodes[3], start, tag;
+    size_t query_len, nodes_len, from_len, room;
+    uint8_t from[256];
+    uint16_t next[256];
+    size_t next_len;
+    gz_cursor cursor;
+};
+
+static void leave(int function, const struct shared *t, const struct besides *e, struct left *l, size_t size)
+{
+    uint8_t *bytes = l->memory + 64;
+    uint16_t *numbers = (uint16_t *)(void *)bytes;
+    gz_image_reply i = {0};
+    memset(l->reply, 0, sizeof l->reply);
+    memset(l->memory, PATTERN, size);
+    l->cursor = e->cursor;
+    if (function == SEEN) {
+        gz_made_reply r = gz_seen(SHARED(*t), numbers, e->room);
+        i = (gz_image_reply){r.number, r.place, r.count};
+    } else if (function == FORWARDS || function == BACKWARDS) {
+        image_function *f = function == FORWARDS ? gz_forwards : gz_backwards;
+        i = f(SHARED(*t), e->query, e->query_len, e->columns, e->nodes, e->nodes_len, e->from, e->from_len, bytes, e->room);
+    } else if (function == PAIRS || function == BITS) {
+        gz_reply r = function == PAIRS ? gz_pairs(SHARED(*t), e->query, e->query_len, e->columns, e->nodes, e->nodes_len, bytes, e->room)
+                                       : gz_pairs_bits(SHARED(*t), e->query, e->query_len, e->columns, e->nodes, e->nodes_len,
+                                                       (uint64_t *)(void *)bytes, e->room);
+        i = (gz_image_reply){r.number, r.place, 0};
+    } else if (function == PAGE || function == QUICK) {
+        struct lent lent = {*t, 0, e->query, e->query_len, e->columns, NULL, 0};
+        gz_quick_reply r = paged(function == QUICK, lent, &l->cursor, numbers, e->room);
+        i = (gz_image_reply){r.number, r.place, r.count};
+        l->reply[2] = r.more, l->reply[3] = r.evaluations;
+    } else if (function == INDEX) {
+        gz_index_reply r = gz_index(SHARED(*t), numbers, e->room, numbers + 800, e->room);
+        i = (gz_image_reply){r.number, r.place, r.next};
+        l->reply[2] = r.tags;
+    } else {
+        i = gz_descendants(SHARED(*t), e->next, e->next_len, e->start, e->tag, bytes, e->room);
+    }
+    l->reply[0] = 65536u * i.number + i.place, l->reply[1] = i.count;
+}
+
+static size_t accepted_alike, refused_alike;
+
+/* A call of one of the functions over two tables of which the party sees the same: all that it leaves is the same. */
+static void alike(int function, const struct shared *here, const struct shared *there, const struct besides *e, size_t size)
+{
+    leave(function, here, e, &left_here, size);
+    leave(function, there, e, &left_there, size);
+    if (left_here.reply[0] == 0)
+        accepted_alike++;
+    else
+        refused_alike++;
+    expect(memcmp(left_here.reply, left_there.reply, sizeof left_here.reply) == 0, function_names[function], "one seen tree", "reply");
+    expect(memcmp(left_here.memory, left_there.memory, size) == 0, function_names[function], "one seen tree", "buffer");
+    expect(same_cursor(left_here.cursor, left_there.cursor), function_names[function], "one seen tree", "cursor");
+}
+
+static uint32_t drawn = 20565;
+
+static uint16_t draw(size_t below)
+{
+    drawn = drawn * 1103515245 + 12345;
+    return (uint16_t)((drawn >> 16) % below);
+}
+
+/* Sound and unsound calls of every function, over a seen tree of n nodes. */
+static void all_alike(const struct shared *here, const struct shared *there, size_t n)
+{
+    static const struct {
+        uint16_t table[64];
+        size_t length;
+        uint16_t columns;
+    } asked[] = {{{0, 7, 0, 65535}, 4, 0},
+                 {{0, 5, 0, 2}, 4, 0},
+                 {{0, 8, 0, 65534}, 4, 1},
+                 {{0, 1, 0, 65535, 0, 3, 0, 65535, 1, 0, 1, 0}, 12, 1},
+                 {{0, 5, 0, 65535, 0, 1, 0, 65535, 4, 0, 1, 0}, 12, 0},
+                 {{0, 5, 0, 2, 12, 0, 0, 0, 5, 0, 1, 0, 0, 1, 0, 3, 12, 1, 0, 0, 5, 3, 4, 0, 1, 2, 5, 0}, 28, 2},
+                 {{6, 0, 0, 0, 0, 2, 0, 65534, 8, 1, 0, 0, 9, 2, 0, 0, 5, 0, 3, 0}, 20, 1},
+                 {{6, 0, 0, 0, 12, 0, 0, 0, 5, 0, 1, 0}, 12, 1},
+                 {{0, 1, 1, 0}, 4, 1}};
+    for (int function = 0; function < FUNCTIONS; function++)
+        for (size_t q = 0; q < LENGTH(asked); q++)
+            for (int wrong = 0; wrong < 4; wrong++) {
+                struct besides e = {.columns = asked[q].columns, .query_len = asked[q].length, .from_len = n, .next_len = n};
+                size_t each = function == SEEN ? 2 : function == PAIRS ? n : function == BITS ? 4 : function == INDEX ? 3 : 1;
+                size_t due = each * n;
+                memcpy(e.query, asked[q].table, sizeof asked[q].table);
+                if (e.columns == 0 && (function == PAGE || function == QUICK))
+                    e.columns = 1;
+                e.nodes_len = e.columns;
+                e.cursor = CURSOR(draw(2), draw(n), draw(n), draw(n));
+                e.start = draw(n), e.tag = draw(5);
+                for (size_t x = 0; x < n; x++)
+                    e.from[x] = draw(2), e.next[x] = 65535;
+                for (size_t k = 0; k < 3; k++)
+                    e.nodes[k] = draw(n);
+                e.room = due + draw(2);
+                if (wrong == 1) /* too little room, or room for no row */
+                    e.room = function == PAGE || function == QUICK ? (size_t)e.columns - 1 : due - 1;
+                if (wrong == 2) /* the first number that is no node */
+                    e.nodes[0] = e.cursor.last[0] = e.start = (uint16_t)n, e.cursor.begun = 1, e.from_len = n - 1;
+                if (wrong == 3) { /* an index that leads anywhere */
+                    e.from[draw(n)] = 2, e.start = 0;
+                    for (size_t x = 0; x < n; x++)
+                        e.next[x] = draw(n + 1);
+                }
+                alike(function, here, there, &e, 144 + (function == PAIRS ? n * n : function == INDEX ? 1600 + 6 * n : 32 * n));
+            }
+}
+
+static void add_to(struct shared *t, uint16_t parent, uint16_t tag, uint16_t owner)
+{
+    uint16_t *end = t->numbers + t->length;
+    end[0] = parent, end[1] = tag, end[2] = owner;
+    t->length += 3;
+}
+
+/* A shared table of which the party sees exactly a tree of n nodes: seen nodes are common or its own, and before each but the first, and
+   behind the last, stand some that it does not see, the other's or below one of those. */
+static struct shared hiding(const uint16_t *tree, size_t n, uint16_t party, size_t most)
+{
+    struct shared t = {.party = party};
+    uint16_t path[256], number[256];
+    bool open[256];
+    size_t depth = 0, level[256];
+    for (size_t x = 0; x <= n; x++) {
+        size_t keep = x == 0 ? 0 : x == n ? 1 : level[tree[2 * x]] + 1;
+        for (size_t hidden = x == 0 ? 0 : draw(most + 1); hidden > 0 && t.length / 3 + (n - x) < 256; hidden--) {
+            size_t k = keep - 1 + draw(depth - keep + 1);
+            add_to(&t, path[k], draw(6), open[k] ? 3 - party : draw(3));
+            path[k + 1] = (uint16_t)(t.length / 3 - 1), open[k + 1] = false;
+            depth = k + 2;
+        }
+        if (x < n) {
+            add_to(&t, x == 0 ? 65535 : number[tree[2 * x]], tree[2 * x + 1], x == 0 || draw(2) ? 0 : party);
+            number[x] = path[keep] = (uint16_t)(t.length / 3 - 1), open[keep] = true;
+            level[x] = keep;
+            depth = keep + 1;
+        }
+    }
+    return t;
+}
+
+static void random_tree(uint16_t *tree, size_t n)
+{
+    for (uint16_t x = 0; x < n; x++) {
+        uint16_t parent = x == 0 ? 65535 : x - 1;
+        while (x != 0 && parent != 0 && draw(2))
+            parent = tree[2 * parent];
+        tree[2 * x] = parent, tree[2 * x + 1] = x == 0 && draw(2) ? 65534 : draw(5);
+    }
+}
+
+/* Two tables with one seen tree, and the tree itself, common to both; the tables differ in all else. */
+static void isolated(const uint16_t *tree, size_t n, size_t most)
+{
+    for (uint16_t party = 1; party <= 2; party++) {
+        struct shared here = hiding(tree, n, party, most), there = hiding(tree, n, party, most), whole = common(tree, 2 * n);
+        whole.party = party;
+        seen_as("a random table", here, tree, 2 * n);
+        seen_as("a random table", there, tree, 2 * n);
+        all_alike(&here, &there, n);
+        all_alike(&here, &whole, n);
+        whole.party = 3 - party; /* of a common tree the other party sees as much */
+        all_alike(&there, &whole, n);
+    }
+}
+
+static void isolation(void)
+{
+    uint16_t tree[512];
+    for (uint16_t party = 1; party <= 2; party++) {
+        /* no hidden node, and then other owners of seen ones; below, other hidden nodes */
+        struct shared here = PARTY(party), there = party == 1 ? common(SLICE(seen_by_1)) : common(SLICE(seen_by_2));
+        size_t n = party == 1 ? 7 : 8;
+        there.party = party;
+        all_alike(&here, &there, n);
+        for (size_t i = 3; i < there.length; i += 3)
+            there.numbers[i + 2] = i % 2 ? 0 : party;
+        all_alike(&here, &there, n);
+    }
+    struct shared here = PARTY(1), other = here;
+    other.numbers[3 * 3 + 1] = 9, other.numbers[3 * 5 + 1] = 0, other.numbers[3 * 5 + 2] = 1; /* a pallet's tag, another's tag and owner */
+    other.numbers[3 * 8 + 2] = 1, other.numbers[3 * 11] = 10; /* a seen pallet no longer common, a hidden one below another */
+    all_alike(&here, &other, 7);
+    struct shared left = shared_with(1, SLICE(halves)), right = shared_with(2, SLICE(halves));
+    all_alike(&left, &right, 5);
+    for (size_t n = 1; n <= 24; n++)
+        for (size_t most = 1; most <= 3; most += 2) {
+            random_tree(tree, n);
+            isolated(tree, n, most);
+        }
+    /* as many nodes as there may be, hidden and seen */
+    random_tree(tree, 100);
+    isolated(tree, 100, 4);
+    random_tree(tree, 256);
+    isolated(tree, 256, 1);
+    expect(accepted_alike > 10000 && refused_alike > 10000, "isolation", "calls", "shares of accepted and refused ones");
 }
 
 int main(void)
@@ -1634,6 +2162,10 @@ int main(void)
     indexes();
     descendants();
     descendants_of_chain();
+    seen_trees();
+    two_firms();
+    refused_tables();
+    isolation();
     printf("%d compared, %d wrong\n", tried, failed);
     return failed != 0;
 }

@@ -1,6 +1,7 @@
 // Calls every function of include/geznauri.h as a Rust program does, with no crates: each once accepted at least and once
 // refused. tests/boundary.c has more cases of each; here it is the declarations that are tried. The tables are of the
-// teaching warehouse, and all expected results are worked out by hand. A difference ends the program with a panic.
+// teaching warehouse, written with two numbers a node where all nodes are common, and all expected results are worked out by
+// hand. A difference ends the program with a panic.
 use std::mem::{offset_of, size_of};
 
 #[repr(C)]
@@ -13,6 +14,14 @@ struct Reply {
 #[repr(C)]
 #[derive(Clone, Copy, Debug, PartialEq)]
 struct ImageReply {
+    number: u16,
+    place: u16,
+    count: usize,
+}
+
+#[repr(C)]
+#[derive(Clone, Copy, Debug, PartialEq)]
+struct MadeReply {
     number: u16,
     place: u16,
     count: usize,
@@ -71,6 +80,7 @@ struct Part {
 
 const _: () = assert!(size_of::<Reply>() == 4 && offset_of!(Reply, place) == 2);
 const _: () = assert!(size_of::<ImageReply>() == 16 && offset_of!(ImageReply, place) == 2 && offset_of!(ImageReply, count) == 8);
+const _: () = assert!(size_of::<MadeReply>() == 16 && offset_of!(MadeReply, place) == 2 && offset_of!(MadeReply, count) == 8);
 const _: () = assert!(size_of::<PageReply>() == 24 && offset_of!(PageReply, count) == 8 && offset_of!(PageReply, more) == 16);
 const _: () = assert!(size_of::<QuickReply>() == 32 && offset_of!(QuickReply, count) == 8 && offset_of!(QuickReply, more) == 16);
 const _: () = assert!(offset_of!(QuickReply, place) == 2 && offset_of!(QuickReply, evaluations) == 24);
@@ -80,37 +90,38 @@ const _: () = assert!(size_of::<Cursor>() == 8 && offset_of!(Cursor, last) == 2)
 const _: () = assert!(size_of::<Part>() == 16 && offset_of!(Part, length) == 8);
 
 type Image = unsafe extern "C" fn(
-    *const u16, usize, *const u16, usize, u16, *const u16, usize, *const u8, usize, *mut u8, usize,
+    *const u16, usize, u16, *const u16, usize, u16, *const u16, usize, *const u8, usize, *mut u8, usize,
 ) -> ImageReply;
 
 #[link(name = "terminal", kind = "static")]
 extern "C" {
     fn gz_check_tree(tree: *const u16, tree_len: usize) -> Reply;
+    fn gz_seen(tree: *const u16, tree_len: usize, party: u16, table: *mut u16, table_len: usize) -> MadeReply;
     fn gz_check_query(query: *const u16, query_len: usize, columns: u16) -> Reply;
     fn gz_forwards(
-        tree: *const u16, tree_len: usize, query: *const u16, query_len: usize, columns: u16, nodes: *const u16,
+        tree: *const u16, tree_len: usize, party: u16, query: *const u16, query_len: usize, columns: u16, nodes: *const u16,
         nodes_len: usize, from: *const u8, from_len: usize, to: *mut u8, to_len: usize,
     ) -> ImageReply;
     fn gz_backwards(
-        tree: *const u16, tree_len: usize, query: *const u16, query_len: usize, columns: u16, nodes: *const u16,
+        tree: *const u16, tree_len: usize, party: u16, query: *const u16, query_len: usize, columns: u16, nodes: *const u16,
         nodes_len: usize, from: *const u8, from_len: usize, to: *mut u8, to_len: usize,
     ) -> ImageReply;
     fn gz_pairs(
-        tree: *const u16, tree_len: usize, query: *const u16, query_len: usize, columns: u16, nodes: *const u16,
+        tree: *const u16, tree_len: usize, party: u16, query: *const u16, query_len: usize, columns: u16, nodes: *const u16,
         nodes_len: usize, table: *mut u8, table_len: usize,
     ) -> Reply;
     fn gz_pairs_bits(
-        tree: *const u16, tree_len: usize, query: *const u16, query_len: usize, columns: u16, nodes: *const u16,
+        tree: *const u16, tree_len: usize, party: u16, query: *const u16, query_len: usize, columns: u16, nodes: *const u16,
         nodes_len: usize, words: *mut u64, words_len: usize,
     ) -> Reply;
     fn gz_pack(n: u16, table: *const u8, table_len: usize, words: *mut u64, words_len: usize) -> Reply;
     fn gz_unpack(n: u16, words: *const u64, words_len: usize, table: *mut u8, table_len: usize) -> Reply;
     fn gz_page(
-        tree: *const u16, tree_len: usize, query: *const u16, query_len: usize, columns: u16, cursor: *mut Cursor,
+        tree: *const u16, tree_len: usize, party: u16, query: *const u16, query_len: usize, columns: u16, cursor: *mut Cursor,
         rows: *mut u16, rows_len: usize,
     ) -> PageReply;
     fn gz_quick_page(
-        tree: *const u16, tree_len: usize, query: *const u16, query_len: usize, columns: u16, cursor: *mut Cursor,
+        tree: *const u16, tree_len: usize, party: u16, query: *const u16, query_len: usize, columns: u16, cursor: *mut Cursor,
         rows: *mut u16, rows_len: usize,
     ) -> QuickReply;
     fn gz_name(house: *const u8, house_len: usize, site: *const u8, site_len: usize, tag: u16, name: *mut Part) -> Reply;
@@ -119,17 +130,38 @@ extern "C" {
         query: *mut u16, query_len: usize,
     ) -> ReadReply;
     fn gz_index(
-        tree: *const u16, tree_len: usize, next: *mut u16, next_len: usize, tags: *mut u16, tags_len: usize,
+        tree: *const u16, tree_len: usize, party: u16, next: *mut u16, next_len: usize, tags: *mut u16, tags_len: usize,
     ) -> IndexReply;
     fn gz_descendants(
-        tree: *const u16, tree_len: usize, next: *const u16, next_len: usize, start: u16, tag: u16, to: *mut u8, to_len: usize,
+        tree: *const u16, tree_len: usize, party: u16, next: *const u16, next_len: usize, start: u16, tag: u16, to: *mut u8,
+        to_len: usize,
     ) -> ImageReply;
 }
 
-// Safe forms: a slice is its pointer and its length.
+// Safe forms: a slice is its pointer and its length, and a shared table stands with its party.
+
+#[derive(Clone)]
+struct Shared {
+    numbers: Vec<u16>,
+    party: u16,
+}
+
+// Every node common, lent to party 1: owner 0 behind each node's two numbers. A number too many stays one.
+fn common(tree: &[u16]) -> Shared {
+    let node = |pair: &[u16]| if pair.len() == 2 { vec![pair[0], pair[1], 0] } else { pair.to_vec() };
+    Shared { numbers: tree.chunks(2).flat_map(node).collect(), party: 1 }
+}
+
+fn check_table(table: &[u16]) -> Reply {
+    unsafe { gz_check_tree(table.as_ptr(), table.len()) }
+}
 
 fn check_tree(tree: &[u16]) -> Reply {
-    unsafe { gz_check_tree(tree.as_ptr(), tree.len()) }
+    check_table(&common(tree).numbers)
+}
+
+fn seen(t: &Shared, table: &mut [u16]) -> MadeReply {
+    unsafe { gz_seen(t.numbers.as_ptr(), t.numbers.len(), t.party, table.as_mut_ptr(), table.len()) }
 }
 
 fn check_query(query: &[u16], columns: u16) -> Reply {
@@ -141,23 +173,35 @@ fn image(f: Image, query: &[u16], nodes: &[u16], from: &[u8], to: &mut [u8]) -> 
 }
 
 fn image_on(f: Image, tree: &[u16], query: &[u16], nodes: &[u16], from: &[u8], to: &mut [u8]) -> ImageReply {
-    let (t, q) = (tree, query);
+    image_for(f, &common(tree), query, nodes, from, to)
+}
+
+fn image_for(f: Image, t: &Shared, query: &[u16], nodes: &[u16], from: &[u8], to: &mut [u8]) -> ImageReply {
+    let (n, q) = (&t.numbers, query);
     unsafe {
-        f(t.as_ptr(), t.len(), q.as_ptr(), q.len(), nodes.len() as u16, nodes.as_ptr(), nodes.len(), from.as_ptr(), from.len(), to.as_mut_ptr(), to.len())
+        f(n.as_ptr(), n.len(), t.party, q.as_ptr(), q.len(), nodes.len() as u16, nodes.as_ptr(), nodes.len(), from.as_ptr(), from.len(), to.as_mut_ptr(), to.len())
     }
 }
 
 fn pairs(query: &[u16], nodes: &[u16], table: &mut [u8]) -> Reply {
-    let (t, q) = (&WAREHOUSE, query);
+    pairs_for(&common(&WAREHOUSE), query, nodes, table)
+}
+
+fn pairs_for(t: &Shared, query: &[u16], nodes: &[u16], table: &mut [u8]) -> Reply {
+    let (n, q) = (&t.numbers, query);
     unsafe {
-        gz_pairs(t.as_ptr(), t.len(), q.as_ptr(), q.len(), nodes.len() as u16, nodes.as_ptr(), nodes.len(), table.as_mut_ptr(), table.len())
+        gz_pairs(n.as_ptr(), n.len(), t.party, q.as_ptr(), q.len(), nodes.len() as u16, nodes.as_ptr(), nodes.len(), table.as_mut_ptr(), table.len())
     }
 }
 
 fn pairs_bits(tree: &[u16], query: &[u16], nodes: &[u16], words: &mut [u64]) -> Reply {
-    let (t, q) = (tree, query);
+    pairs_bits_for(&common(tree), query, nodes, words)
+}
+
+fn pairs_bits_for(t: &Shared, query: &[u16], nodes: &[u16], words: &mut [u64]) -> Reply {
+    let (n, q) = (&t.numbers, query);
     unsafe {
-        gz_pairs_bits(t.as_ptr(), t.len(), q.as_ptr(), q.len(), nodes.len() as u16, nodes.as_ptr(), nodes.len(), words.as_mut_ptr(), words.len())
+        gz_pairs_bits(n.as_ptr(), n.len(), t.party, q.as_ptr(), q.len(), nodes.len() as u16, nodes.as_ptr(), nodes.len(), words.as_mut_ptr(), words.len())
     }
 }
 
@@ -170,13 +214,21 @@ fn unpack(n: u16, words: &[u64], table: &mut [u8]) -> Reply {
 }
 
 fn page(query: &[u16], columns: u16, cursor: &mut Cursor, rows: &mut [u16]) -> PageReply {
-    let (t, q) = (&WAREHOUSE, query);
-    unsafe { gz_page(t.as_ptr(), t.len(), q.as_ptr(), q.len(), columns, cursor, rows.as_mut_ptr(), rows.len()) }
+    page_for(&common(&WAREHOUSE), query, columns, cursor, rows)
+}
+
+fn page_for(t: &Shared, query: &[u16], columns: u16, cursor: &mut Cursor, rows: &mut [u16]) -> PageReply {
+    let (n, q) = (&t.numbers, query);
+    unsafe { gz_page(n.as_ptr(), n.len(), t.party, q.as_ptr(), q.len(), columns, cursor, rows.as_mut_ptr(), rows.len()) }
 }
 
 fn quick_page(tree: &[u16], query: &[u16], columns: u16, cursor: &mut Cursor, rows: &mut [u16]) -> QuickReply {
-    let (t, q) = (tree, query);
-    unsafe { gz_quick_page(t.as_ptr(), t.len(), q.as_ptr(), q.len(), columns, cursor, rows.as_mut_ptr(), rows.len()) }
+    quick_page_for(&common(tree), query, columns, cursor, rows)
+}
+
+fn quick_page_for(t: &Shared, query: &[u16], columns: u16, cursor: &mut Cursor, rows: &mut [u16]) -> QuickReply {
+    let (n, q) = (&t.numbers, query);
+    unsafe { gz_quick_page(n.as_ptr(), n.len(), t.party, q.as_ptr(), q.len(), columns, cursor, rows.as_mut_ptr(), rows.len()) }
 }
 
 // The part borrows from the table that holds it.
@@ -194,16 +246,28 @@ fn read(text: &[u8], house: &[u8], site: &[u8], query: &mut [u16]) -> ReadReply 
 }
 
 fn index(tree: &[u16], next: &mut [u16], tags: &mut [u16]) -> IndexReply {
-    unsafe { gz_index(tree.as_ptr(), tree.len(), next.as_mut_ptr(), next.len(), tags.as_mut_ptr(), tags.len()) }
+    index_for(&common(tree), next, tags)
+}
+
+fn index_for(t: &Shared, next: &mut [u16], tags: &mut [u16]) -> IndexReply {
+    let n = &t.numbers;
+    unsafe { gz_index(n.as_ptr(), n.len(), t.party, next.as_mut_ptr(), next.len(), tags.as_mut_ptr(), tags.len()) }
 }
 
 fn descendants(tree: &[u16], next: &[u16], start: u16, tag: u16, to: &mut [u8]) -> ImageReply {
-    unsafe { gz_descendants(tree.as_ptr(), tree.len(), next.as_ptr(), next.len(), start, tag, to.as_mut_ptr(), to.len()) }
+    descendants_for(&common(tree), next, start, tag, to)
+}
+
+fn descendants_for(t: &Shared, next: &[u16], start: u16, tag: u16, to: &mut [u8]) -> ImageReply {
+    let n = &t.numbers;
+    unsafe { gz_descendants(n.as_ptr(), n.len(), t.party, next.as_ptr(), next.len(), start, tag, to.as_mut_ptr(), to.len()) }
 }
 
 const WAREHOUSE: [u16; 12] = [65535, 1, 0, 2, 1, 3, 1, 3, 0, 2, 4, 3];
 // the same below a document node
 const DOCUMENT: [u16; 14] = [65535, 65534, 0, 1, 1, 2, 2, 3, 2, 3, 1, 2, 5, 3];
+// a hall of two firms: party 1 sees the nodes 0, 1, 2, 5 and 6, and party 2 the nodes 0, 1, 3 and 4
+const FIRMS: [u16; 21] = [65535, 1, 0, 0, 2, 0, 1, 3, 1, 1, 3, 2, 1, 3, 2, 0, 2, 1, 5, 3, 0];
 // descendant::2[. is $0]/child::3[. is $1]
 const PALLETS: [u16; 28] = [0, 5, 0, 2, 12, 0, 0, 0, 5, 0, 1, 0, 0, 1, 0, 3, 12, 1, 0, 0, 5, 3, 4, 0, 1, 2, 5, 0];
 const FOLLOWING: [u16; 4] = [0, 7, 0, 65535];
@@ -440,4 +504,82 @@ fn main() {
     assert_eq!(descendants(&WAREHOUSE, &next[..6], 1, 3, &mut set[..5]), no_image(27, 3));
     assert_eq!(descendants(&WAREHOUSE, &next[..6], 4, 3, &mut set[..5]), no_image(20, 0));
     assert_eq!(set, [7; 8]);
+
+    two_firms();
+}
+
+// Each party over one table, the other's nodes hidden, and what is refused of table and party before all else.
+fn two_firms() {
+    let of = |party| Shared { numbers: FIRMS.to_vec(), party };
+    let made = |count| MadeReply { number: 0, place: 0, count };
+    let (one, two) = (of(1), of(2));
+    assert_eq!(check_table(&FIRMS), ACCEPTED);
+    let mut table = [7; 11];
+    assert_eq!(seen(&one, &mut table), made(10));
+    assert_eq!(table, [65535, 1, 0, 2, 1, 3, 0, 2, 3, 3, 7]);
+    table = [7; 11];
+    assert_eq!(seen(&two, &mut table[..8]), made(8));
+    assert_eq!(table, [65535, 1, 0, 2, 1, 3, 1, 3, 7, 7, 7]);
+    assert_eq!(seen(&two, &mut table[..7]), MadeReply { number: 20, place: 0, count: 0 });
+    assert_eq!(table, [65535, 1, 0, 2, 1, 3, 1, 3, 7, 7, 7]);
+
+    let found = |count| ImageReply { number: 0, place: 0, count };
+    let mut set = [7; 6];
+    assert_eq!(image_for(gz_forwards, &one, &FOLLOWING, &[], &[0, 1, 0, 0, 0], &mut set), found(2));
+    assert_eq!(set, [0, 0, 0, 1, 1, 7]);
+    assert_eq!(image_for(gz_forwards, &two, &FOLLOWING, &[], &[0, 1, 1, 0], &mut set), found(1));
+    assert_eq!(set, [0, 0, 0, 1, 1, 7]);
+    assert_eq!(image_for(gz_backwards, &one, &CHILD, &[], &[0, 0, 0, 0, 1], &mut set), found(1));
+    assert_eq!(set, [0, 0, 0, 1, 0, 7]);
+    assert_eq!(image_for(gz_backwards, &two, &PALLETS, &[1, 3], &[1, 1, 1, 1], &mut set), found(1));
+    assert_eq!(set, [1, 0, 0, 0, 0, 7]);
+
+    let mut table = [7; 17];
+    assert_eq!(pairs_for(&two, &CHILD, &[], &mut table), ACCEPTED);
+    assert_eq!(table, [0, 1, 0, 0, 0, 0, 1, 1, 0, 0, 0, 0, 0, 0, 0, 0, 7]);
+    let mut words = [7; 21];
+    assert_eq!(pairs_bits_for(&one, &CHILD, &[], &mut words), ACCEPTED);
+    assert_eq!(words, [10, 0, 0, 0, 4, 0, 0, 0, 0, 0, 0, 0, 16, 0, 0, 0, 0, 0, 0, 0, 7]);
+
+    let (mut cursor, mut rows) = (Cursor { begun: 0, last: [0, 0, 9] }, [7; 5]);
+    assert_eq!(page_for(&one, &PALLETS, 2, &mut cursor, &mut rows), PageReply { number: 0, place: 0, count: 2, more: false });
+    assert_eq!((rows, cursor), ([1, 2, 3, 4, 7], Cursor { begun: 1, last: [3, 4, 9] }));
+    let (mut cursor, mut rows) = (Cursor { begun: 0, last: [0, 0, 9] }, [7; 5]);
+    let counted = QuickReply { number: 0, place: 0, count: 2, more: false, evaluations: 9 };
+    assert_eq!(quick_page_for(&two, &PALLETS, 2, &mut cursor, &mut rows), counted);
+    assert_eq!((rows, cursor), ([1, 2, 1, 3, 7], Cursor { begun: 1, last: [1, 3, 9] }));
+
+    let (mut next, mut tags) = ([7; 6], [7; 10]);
+    assert_eq!(index_for(&one, &mut next, &mut tags), IndexReply { number: 0, place: 0, next: 5, tags: 9 });
+    assert_eq!((next, tags), ([65535, 3, 4, 65535, 65535, 7], [1, 0, 1, 2, 1, 2, 3, 2, 2, 7]));
+    assert_eq!(descendants_for(&one, &next[..5], 0, 3, &mut set), found(2));
+    assert_eq!(set, [0, 0, 1, 0, 1, 7]);
+    assert_eq!(descendants_for(&two, &next[..5], 0, 3, &mut set), ImageReply { number: 27, place: 0, count: 0 });
+    assert_eq!(descendants_for(&two, &[], 4, 3, &mut set), ImageReply { number: 36, place: 0, count: 0 });
+
+    // 30 and 31, by every function, whatever else it is lent
+    let mut owner = of(3);
+    owner.numbers[17] = 3;
+    let mut hall = of(1);
+    hall.numbers[2] = 1;
+    let mut tag = owner.clone();
+    tag.numbers[19] = 65535;
+    for (t, number, place) in [(&owner, 30, 5), (&hall, 30, 0), (&tag, 7, 6), (&of(0), 31, 0), (&of(3), 31, 0), (&of(257), 31, 0)] {
+        let no_image = ImageReply { number, place, count: 0 };
+        let (mut set, mut numbers, mut words, mut rows) = ([7; 9], [7; 20], [7; 30], [7; 4]);
+        let mut cursor = Cursor { begun: 9, last: [900; 3] };
+        assert_eq!(check_table(&t.numbers), if number == 31 { ACCEPTED } else { refused(number, place) });
+        assert_eq!(seen(t, &mut numbers), MadeReply { number, place, count: 0 });
+        assert_eq!(image_for(gz_forwards, t, &[], &[9], &[2], &mut set), no_image);
+        assert_eq!(image_for(gz_backwards, t, &CHILD, &[], &[1; 5], &mut set), no_image);
+        assert_eq!(pairs_for(t, &CHILD, &[], &mut set), refused(number, place));
+        assert_eq!(pairs_bits_for(t, &CHILD, &[], &mut words), refused(number, place));
+        assert_eq!(page_for(t, &[], 9, &mut cursor, &mut rows), PageReply { number, place, count: 0, more: false });
+        let uncounted = QuickReply { number, place, count: 0, more: false, evaluations: 0 };
+        assert_eq!(quick_page_for(t, &PALLETS, 2, &mut cursor, &mut rows), uncounted);
+        let (next, tags) = numbers.split_at_mut(8);
+        assert_eq!(index_for(t, next, tags), IndexReply { number, place, next: 0, tags: 0 });
+        assert_eq!(descendants_for(t, &[], 900, 3, &mut set), no_image);
+        assert_eq!((set, numbers, words, rows, cursor), ([7; 9], [7; 20], [7; 30], [7; 4], Cursor { begun: 9, last: [900; 3] }));
+    }
 }

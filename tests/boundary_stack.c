@@ -1,9 +1,9 @@
-/* The stack that a call takes is as include/geznauri.h has it: less than 1 KiB for a check and a name, less than 4 KiB where a typed
-   query is read, an index is made or followed, or a relation turned from bytes to bits or back, less than 8 KiB for a query of one
-   level, and less than 4 KiB for each further level of nesting; a quick page takes less than 12 KiB for one level, and 4 KiB for each
-   further one. Pairs in bits take so little for every query that stack and table together are smaller than a table of bytes. Calls run
-   on a stack that was filled with a pattern; how much of the pattern is gone, less what a thread takes that calls nothing, is what the
-   call took. The tree of queries has one node, and of quick pages two: frames are of one size for all trees; for pairs in bits it has
+/* The stack that a call takes is as include/geznauri.h has it: less than 1 KiB for a check and a name, less than 4 KiB where a seen tree
+   is made, a typed query is read, an index is made or followed, or a relation turned from bytes to bits or back, less than 9 KiB for a
+   query of one level, and less than 4 KiB for each further level of nesting; a quick page takes less than 13 KiB for one level, and 4 KiB
+   for each further one. Pairs in bits take so little for every query that stack and table together are smaller than a table of bytes.
+   Calls run on a stack that was filled with a pattern; how much of the pattern is gone, less what a thread takes that calls nothing, is
+   what the call took. The tree of queries has one node, and of quick pages two: frames are of one size for all trees; for pairs in bits it has
    256, as has what is turned. */
 #define _GNU_SOURCE
 #include "geznauri.h"
@@ -15,7 +15,7 @@
 #define PATTERN 0xA5
 #define SIZE ((size_t)1 << 20)
 
-static const uint16_t tree[] = {65535, 1};
+static const uint16_t tree[] = {65535, 1, 0};
 static uint16_t query[256];
 static size_t entries;
 
@@ -42,7 +42,7 @@ static void *checks(void *unused)
 {
     static const uint8_t house[] = "\3bay", site[] = "\6pallet";
     gz_part name;
-    accepted(gz_check_tree(tree, 2).number);
+    accepted(gz_check_tree(tree, 3).number);
     accepted(gz_check_query(query, 4 * entries, 1).number);
     accepted(gz_name(house, 4, site, 7, 1, &name).number);
     return unused;
@@ -53,34 +53,34 @@ static void *evaluations(void *unused)
     uint8_t from[1] = {1}, to[1];
     uint16_t nodes[1] = {0}, rows[1];
     gz_cursor cursor = {0};
-    accepted(gz_forwards(tree, 2, query, 4 * entries, 1, nodes, 1, from, 1, to, 1).number);
-    accepted(gz_backwards(tree, 2, query, 4 * entries, 1, nodes, 1, from, 1, to, 1).number);
-    accepted(gz_pairs(tree, 2, query, 4 * entries, 1, nodes, 1, to, 1).number);
-    accepted(gz_page(tree, 2, query, 4 * entries, 1, &cursor, rows, 1).number);
+    accepted(gz_forwards(tree, 3, 1, query, 4 * entries, 1, nodes, 1, from, 1, to, 1).number);
+    accepted(gz_backwards(tree, 3, 1, query, 4 * entries, 1, nodes, 1, from, 1, to, 1).number);
+    accepted(gz_pairs(tree, 3, 1, query, 4 * entries, 1, nodes, 1, to, 1).number);
+    accepted(gz_page(tree, 3, 1, query, 4 * entries, 1, &cursor, rows, 1).number);
     return unused;
 }
 
 /* A quick page of three variables. With two nodes, and room for the eight rows that there can be, each variable is filled and then sought
    again, while those behind it stand for any node. */
-static const uint16_t two[] = {65535, 1, 0, 1};
+static const uint16_t two[] = {65535, 1, 0, 0, 1, 1};
 
 static void *quick(void *unused)
 {
     static uint16_t rows[24];
     gz_cursor cursor = {0};
-    accepted(gz_quick_page(two, 4, query, 4 * entries, 3, &cursor, rows, 24).number);
+    accepted(gz_quick_page(two, 6, 1, query, 4 * entries, 3, &cursor, rows, 24).number);
     return unused;
 }
 
 /* Pairs in bits of the largest tree, and the largest table turned. */
-static uint16_t large[512];
+static uint16_t large[768];
 static uint64_t words[1024];
 static uint8_t cells[65536];
 
 static void *bits(void *unused)
 {
     uint16_t nodes[1] = {0};
-    accepted(gz_pairs_bits(large, 512, query, 4 * entries, 1, nodes, 1, words, 1024).number);
+    accepted(gz_pairs_bits(large, 768, 1, query, 4 * entries, 1, nodes, 1, words, 1024).number);
     return unused;
 }
 
@@ -106,19 +106,26 @@ static void *reading(void *unused)
     return unused;
 }
 
-/* The index of a tree as large as it may be: a chain, with the tags in turn. */
-static uint16_t chain[512], chain_next[256], chain_tags[768];
+/* The seen tree and the index of a tree as large as it may be: a chain, with the tags in turn. */
+static uint16_t chain[768], chain_next[256], chain_tags[768];
+
+static void *tree_seen(void *unused)
+{
+    static uint16_t table[512];
+    accepted(gz_seen(chain, 768, 2, table, 512).number);
+    return unused;
+}
 
 static void *index_made(void *unused)
 {
-    accepted(gz_index(chain, 512, chain_next, 256, chain_tags, 768).number);
+    accepted(gz_index(chain, 768, 2, chain_next, 256, chain_tags, 768).number);
     return unused;
 }
 
 static void *index_followed(void *unused)
 {
     static uint8_t to[256];
-    accepted(gz_descendants(chain, 512, chain_next, 256, 0, chain[3], to, 256).number);
+    accepted(gz_descendants(chain, 768, 2, chain_next, 256, 0, chain[4], to, 256).number);
     return unused;
 }
 
@@ -162,7 +169,7 @@ static void quick_at_most(const char *what, size_t expected)
     printf("%s, %zu levels: %zu bytes for a quick page\n", what, expected, took);
     if (took > most_quick)
         most_quick = took;
-    if (levels(entries - 1) != expected || took >= (expected + 2) * 4096)
+    if (levels(entries - 1) != expected || took >= 13 * 1024 + (expected - 1) * 4096)
         wrong = 1;
 }
 
@@ -170,7 +177,7 @@ static void at_most(const char *what, size_t expected)
 {
     size_t took = taken(evaluations) - taken(nothing), checked = taken(checks) - taken(nothing);
     printf("%s, %zu levels: %zu bytes, and %zu for the checks\n", what, expected, took, checked);
-    if (levels(entries - 1) != expected || took >= (expected + 1) * 4096 || checked >= 1024)
+    if (levels(entries - 1) != expected || took >= 9 * 1024 + (expected - 1) * 4096 || checked >= 1024)
         wrong = 1;
     quick_at_most(what, expected);
 }
@@ -208,10 +215,12 @@ static void nested(const char *open, size_t times, const char *middle, const cha
 static void indexed(uint16_t tags)
 {
     for (uint16_t x = 0; x < 256; x++)
-        chain[2 * x] = x == 0 ? 65535 : x - 1, chain[2 * x + 1] = x % tags;
-    size_t made = taken(index_made) - taken(nothing), followed = taken(index_followed) - taken(nothing);
+        chain[3 * x] = x == 0 ? 65535 : x - 1, chain[3 * x + 1] = x % tags, chain[3 * x + 2] = x % 2 ? 2 : 0;
+    size_t seen = taken(tree_seen) - taken(nothing), made = taken(index_made) - taken(nothing);
+    size_t followed = taken(index_followed) - taken(nothing);
+    printf("a seen tree: %zu bytes\n", seen);
     printf("an index with %u tags: %zu bytes where it is made, %zu where it is followed\n", tags, made, followed);
-    if (made >= 4096 || followed >= 4096)
+    if (seen >= 4096 || made >= 4096 || followed >= 4096)
         wrong = 1;
 }
 
@@ -261,7 +270,7 @@ static void shapes_in_bits(void)
 {
     /* every node hangs below the node before it, but every third below the root */
     for (uint16_t x = 0; x < 256; x++)
-        large[2 * x] = x == 0 ? 65535 : x % 3 == 1 ? 0 : x - 1, large[2 * x + 1] = 1;
+        large[3 * x] = x == 0 ? 65535 : x % 3 == 1 ? 0 : x - 1, large[3 * x + 1] = 1, large[3 * x + 2] = x % 2;
     for (uint16_t kind = 1; kind <= 4; kind++) {
         static const char *const names[] = {"compositions", "unions", "intersections", "differences"};
         printf("%s: ", names[kind - 1]);

@@ -1,6 +1,6 @@
 #!/usr/bin/env python3
-"""The program that rt ci built, run on the examples and on a table of jobs, sound and damaged, and held to every byte that it
-should print. What a damaged job is refused with is worked out by hand; the answers of a sound one come from the separate
+"""The program that rt ci built, run on the examples and on a table of jobs of both forms, sound and damaged, and held to every byte
+that it should print. What a damaged job is refused with is worked out by hand; the answers of a sound one come from the separate
 evaluator of tests/support, or are told by a formula."""
 import itertools, os, random, subprocess, sys
 sys.dont_write_bytecode = True
@@ -71,15 +71,27 @@ T, Q = make.packed(TREE), make.packed(QUERY)
 WHOLE = make.job(TREE, QUERY, 2)
 
 
-def file(body, tree_start, tree_count, query_start, query_count, columns=2, magic=20564):
-    """A file of any bytes and the trailer that says where its parts start; a start may lie before the file."""
-    size = len(body) + 12
-    return body + make.packed([size - tree_start, tree_count, size - query_start, query_count, columns, magic])
+def file(body, tree_start, tree_count, query_start, query_count, columns=2, magic=20564, party=None):
+    """A file of any bytes and the trailer that says where its parts start; a start may lie before the file. With a party the trailer
+    has one number more, and the other magic number."""
+    last = [magic] if party is None else [party, 20565]
+    size = len(body) + 10 + 2 * len(last)
+    return body + make.packed([size - tree_start, tree_count, size - query_start, query_count, columns] + last)
 
 
 def sized(size):
     """The warehouse's job with ignored bytes between its parts and the trailer, so that the file has this size."""
     return file(T + Q + bytes(size - 92), 0, 12, 24, 28)
+
+
+# The same with three numbers a node, all common, for a party.
+COMMON = make.shared(TREE, [0] * 6)
+C = make.packed(COMMON)
+SHARED = make.job(COMMON, QUERY, 2, 2)
+
+
+def shared_sized(size):
+    return file(C + Q + bytes(size - 106), 0, 18, 36, 28, party=2)
 
 
 # Files and their parts: 1 to 4, and all the places where a part may lie.
@@ -90,7 +102,8 @@ FILES = [
     ("4,096 bytes", sized(4096), ROWS),
     ("4,097 bytes", sized(4097), refused(1)),
     ("far too long", bytes(1 << 20), refused(1)),
-    ("a magic number one too high, and a part before the file", file(T + Q, -1, 12, 24, 28, magic=20565), refused(2)),
+    ("a magic number two too high, and a part before the file", file(T + Q, -1, 12, 24, 28, magic=20566), refused(2)),
+    ("a magic number one too low, and a part before the file", file(T + Q, -1, 12, 24, 28, magic=20563), refused(2)),
     ("a magic number with its bytes swapped", WHOLE[:-2] + WHOLE[-1:] + WHOLE[-2:-1], refused(2)),
     ("a magic number that is not the last number", WHOLE + b"\0", refused(2)),
     ("the tree a byte before the file", file(T + Q, -1, 12, 24, 28), refused(3, 0)),
@@ -114,6 +127,45 @@ FILES = [
     ("the query first", file(Q + T, 56, 12, 0, 28), ROWS),
     ("odd offsets", file(b"\7" + T + Q + b"\7", 1, 12, 25, 28), ROWS),
     ("ignored bytes everywhere", file(b"\1\2\3" + Q + b"\4\5\6\7" + T + b"\xff" * 9, 63, 12, 3, 28), ROWS),
+    ("a number before the older trailer, which is no party", file(T + Q + make.packed([3]), 0, 12, 24, 28), ROWS),
+]
+
+# The same of files with a party: a trailer of 14 bytes, and no part may end inside it.
+FILES += [
+    ("the newer magic number alone", make.packed([20565]), refused(1)),
+    ("11 bytes with the newer magic number", SHARED[-11:], refused(1)),
+    ("12 bytes with the newer magic number", SHARED[-12:], refused(1)),
+    ("12 bytes that would have two empty parts", file(b"", 0, 0, 0, 0, magic=20565), refused(1)),
+    ("13 bytes with the newer magic number", SHARED[-13:], refused(1)),
+    ("13 bytes that would have two empty parts", file(b"\0", 0, 0, 0, 0, magic=20565), refused(1)),
+    ("14 bytes, two empty parts before the trailer", file(b"", 0, 0, 0, 0, party=1), refused(5)),
+    ("14 bytes, two empty parts and no such party", file(b"", 0, 0, 0, 0, party=0), refused(5)),
+    ("14 bytes, the last of a job", SHARED[-14:], refused(3, 0)),
+    ("the older magic number in 12 of 14 bytes", SHARED[-14:-2] + make.packed([20564]), refused(3, 0)),
+    ("a party", SHARED, ROWS),
+    ("4,096 bytes and a party", shared_sized(4096), ROWS),
+    ("4,097 bytes and a party", shared_sized(4097), refused(1)),
+    ("the newer magic number with its bytes swapped", SHARED[:-2] + SHARED[-1:] + SHARED[-2:-1], refused(2)),
+    ("the newer magic number two too high", SHARED[:-2] + make.packed([20567]), refused(2)),
+    ("the newer magic number that is not the last number", SHARED + b"\0", refused(2)),
+    ("a party behind the newer magic number", SHARED[:-4] + make.packed([20565, 2]), refused(2)),
+    ("the tree a byte before the file, with a party", file(C + Q, -1, 18, 36, 28, party=1), refused(3, 0)),
+    ("the query a byte before the file, with a party", file(C + Q, 0, 18, -1, 28, party=1), refused(3, 1)),
+    ("the tree a byte into the longer trailer", file(Q + C, 57, 18, 0, 28, party=1), refused(3, 0)),
+    ("the tree a number into the longer trailer, where the older begins", file(Q + C, 58, 18, 0, 28, party=1), refused(3, 0)),
+    ("the query a byte into the longer trailer", file(C + Q, 0, 18, 37, 28, party=1), refused(3, 1)),
+    ("the query a number into the longer trailer", file(C + Q, 0, 18, 36, 29, party=1), refused(3, 1)),
+    ("the largest distance and count, with a party", file(C + Q, 106 - 65535, 65535, 36, 28, party=1), refused(3, 0)),
+    ("an empty query at the longer trailer's start", file(C + Q, 0, 18, 92, 0, party=1), refused(8)),
+    ("an empty query a byte into it", file(C + Q, 0, 18, 93, 0, party=1), refused(3, 1)),
+    ("an empty query where the older trailer begins", file(C + Q, 0, 18, 94, 0, party=1), refused(3, 1)),
+    ("an empty tree where the older trailer begins", file(C + Q, 94, 0, 36, 28, party=1), refused(3, 0)),
+    ("an overlap by one byte, the shared tree first", file(C[:-1] + Q, 0, 18, 35, 28, party=1), refused(4)),
+    ("an overlap by one byte, the query first, with a party", file(Q[:-1] + C, 55, 18, 0, 28, party=1), refused(4)),
+    ("an overlap, an unsound tree and no such party", file(bytes(36), 0, 18, 8, 4, party=9), refused(4)),
+    ("the query first, with a party", file(Q + C, 56, 18, 0, 28, party=2), ROWS),
+    ("odd offsets, with a party", file(b"\7" + C + Q + b"\7", 1, 18, 37, 28, party=1), ROWS),
+    ("ignored bytes everywhere, with a party", file(b"\1\2\3" + Q + b"\4\5\6\7" + C + b"\xff" * 9, 63, 18, 3, 28, party=2), ROWS),
 ]
 
 # The tree, the query and the number of variables: 5 to 15.
@@ -160,6 +212,72 @@ TABLES = [
     ("an operand never used", TREE, STAR + STAR, 1, refused(14, 0)),
     ("a node expression for the query", TREE, [12, 0, 0, 0], 1, refused(15, 0)),
     ("a node expression for the query, last of two", TREE, STAR + [8, 0, 0, 0], 1, refused(15, 1)),
+]
+
+# Shared tables: two firms in one hall, each of their jobs by hand, and 5 to 8 of tables with owners and a party. CHAIN has 257 nodes.
+FIRMS, OWNERS = make.TWO_FIRMS, make.OWNERS
+ONE, TWO = listed([(1, 2), (3, 4), (3, 5)]), listed([(1, 2), (3, 4), (5, 6), (5, 7)])
+LONGEST = make.shared(CHAIN, [0] * 257)
+NOTHING_SEEN = make.shared(make.FIRMS, [0, 1, 0, 1, 1, 0, 1, 2, 1, 1, 2, 2])
+
+
+def owner(node, number, table=FIRMS):
+    return changed(table, 3 * node + 2, number)
+
+
+PARTIES = [
+    ("firm 1", FIRMS, QUERY, 2, 1, ONE),
+    ("firm 2", FIRMS, QUERY, 2, 2, TWO),
+    ("every node of firm 1", FIRMS, STAR + [12, 0, 0, 0, 5, 0, 1, 0], 1, 1, listed((x,) for x in range(7))),
+    ("every node of firm 2", FIRMS, STAR + [12, 0, 0, 0, 5, 0, 1, 0], 1, 2, listed((x,) for x in range(8))),
+    ("a hall that is empty to firm 2", NOTHING_SEEN, STAR + [12, 0, 0, 0, 5, 0, 1, 0], 1, 2, listed([(0,)])),
+    ("all but two pallets are firm 1's", NOTHING_SEEN, QUERY, 2, 1, listed([(1, 2), (1, 3), (4, 5), (6, 7)])),
+    ("no nodes", [], QUERY, 2, 1, refused(5)),
+    ("one number", FIRMS[:1], QUERY, 2, 1, refused(5)),
+    ("two numbers, as an older job's one node", FIRMS[:2], QUERY, 2, 1, refused(5)),
+    ("a third of a node too many", FIRMS + [0], QUERY, 2, 1, refused(5)),
+    ("two thirds of a node too many", FIRMS + [0, 3], QUERY, 2, 2, refused(5)),
+    ("256 nodes and a party", LONGEST[:768], STAR, 1, 2, listed((x,) for x in range(256))),
+    ("255 nodes and a party", LONGEST[:765], STAR, 1, 1, listed((x,) for x in range(255))),
+    ("256 nodes and a number more", LONGEST[:769], STAR, 1, 1, refused(5)),
+    ("256 nodes and two numbers more", LONGEST[:770], STAR, 1, 1, refused(5)),
+    ("257 nodes and a party", LONGEST, STAR, 1, 1, refused(5)),
+    ("512 numbers", LONGEST[:512], STAR, 1, 1, refused(5)),
+    ("171 nodes and a party", LONGEST[:513], STAR, 1, 1, listed((x,) for x in range(171))),
+    ("172 nodes and a party, which are 516 numbers", LONGEST[:516], STAR, 1, 1, listed((x,) for x in range(172))),
+    ("a shared table of twice as many numbers as fit", (2 * LONGEST)[:1536], STAR, 1, 1, refused(5)),
+    ("an older tree under the newer magic number", TREE, QUERY, 2, 1, refused(6, 1)),
+    ("a root with a parent, and no such party", changed(FIRMS, 0, 0), QUERY, 2, 0, refused(6, 0)),
+    ("a hidden node with a bad parent", changed(FIRMS, 33, 8), QUERY, 2, 1, refused(6, 11)),
+    ("a hidden node with a bad tag", changed(FIRMS, 34, 65534), QUERY, 2, 1, refused(7, 11)),
+    ("a bad tag behind a bad owner", changed(owner(1, 3), 34, 65535), QUERY, 2, 9, refused(7, 11)),
+    ("an owner of 3", owner(5, 3), QUERY, 2, 1, refused(30, 5)),
+    ("an owner of 3, seen by nobody", owner(11, 3), QUERY, 2, 1, refused(30, 11)),
+    ("two bad owners", owner(11, 65535, owner(3, 256)), QUERY, 2, 2, refused(30, 3)),
+    ("a hall of firm 1", owner(0, 1), QUERY, 2, 1, refused(30, 0)),
+    ("a hall of firm 2", owner(0, 2), QUERY, 2, 2, refused(30, 0)),
+    ("a bad owner and no such party", owner(11, 3), QUERY, 2, 3, refused(30, 11)),
+    ("party 0", FIRMS, QUERY, 2, 0, refused(31)),
+    ("party 3", FIRMS, QUERY, 2, 3, refused(31)),
+    ("party 257", FIRMS, QUERY, 2, 257, refused(31)),
+    ("party 65535, and a query of no entry", FIRMS, [], 2, 65535, refused(31)),
+    ("party 0, and no variable", FIRMS, QUERY, 0, 0, refused(31)),
+    ("a party and a query of no entry", FIRMS, [], 2, 1, refused(8)),
+    ("a party and no variable", FIRMS, QUERY, 0, 2, refused(9)),
+    ("a party and a kind of 13", FIRMS, entry(3, 13, 0, 0, 0), 2, 2, refused(10, 3)),
+    ("a party and a node expression for the query", FIRMS, [12, 0, 0, 0], 1, 1, refused(15, 0)),
+    ("a document node and a party", changed(FIRMS, 1, 65534), STAR + [12, 0, 0, 0, 5, 0, 1, 0], 1, 1, listed((x,) for x in range(1, 7))),
+    ("a hidden document node", changed(FIRMS, 10, 65534), QUERY, 2, 1, refused(7, 3)),
+]
+
+# Older jobs keep the older limits, whatever three numbers a node would make of them.
+TABLES += [
+    ("an older tree of 9 numbers", TREE[:9], QUERY, 2, refused(5)),
+    ("an older tree of 513 numbers", CHAIN[:513], STAR, 1, refused(5)),
+    ("an older tree of 600 numbers", (2 * CHAIN)[:600], STAR, 1, refused(5)),
+    ("an older tree of 768 numbers", (2 * CHAIN)[:768], STAR, 1, refused(5)),
+    ("an older tree of 1,800 numbers", (4 * CHAIN)[:1800], STAR, 1, refused(5)),
+    ("three numbers a node under the older magic number", COMMON, QUERY, 2, refused(6, 2)),
 ]
 
 # The star and node(): the teaching warehouse below a document node, and without one. Each row by hand.
@@ -274,14 +392,14 @@ def random_query(source, columns):
     return table
 
 
-def random_file(source, tree, query, columns):
+def random_file(source, tree, query, columns, party=None):
     """The parts in either order, with ignored bytes around them."""
     first, second = (tree, query) if source.random() < 0.5 else (query, tree)
     gaps = [source.randbytes(source.randrange(6)) for _ in range(3)]
     body = gaps[0] + make.packed(first) + gaps[1] + make.packed(second) + gaps[2]
     starts = len(gaps[0]), len(gaps[0]) + 2 * len(first) + len(gaps[1])
     at = starts if first is tree else starts[::-1]
-    return file(body, at[0], len(tree), at[1], len(query), columns)
+    return file(body, at[0], len(tree), at[1], len(query), columns, party=party)
 
 
 def random_list(source, keeps):
@@ -326,15 +444,46 @@ def random_jobs(count):
         problems.append("the random lists with gaps have only the kinds %s and the axes %s" % (sorted(kinds), sorted(axes)))
 
 
+def shared_jobs(count):
+    """Random jobs with a party, over trees whose nodes have owners by chance. At least in every second job the party sees some nodes below
+    the root and not others, and at least every second list has gaps."""
+    source, parted, gaps = random.Random(20565), 0, 0
+    for job in range(count):
+        party, tree, columns = 1 + job % 2, random_tree(source), source.randint(1, 3)
+        for _ in range(source.randrange(5)):  # some nodes more, below any node of the last path
+            path = [len(tree) // 2 - 1]
+            while path[-1]:
+                path.append(tree[2 * path[-1]])
+            tree += [source.choice(path), source.randrange(4)]
+        n = len(tree) // 2
+        table = make.shared(tree, [0] + [source.choice([0, 0, party, 3 - party]) for _ in range(n - 1)])
+        seen = reference.seen(table, party)
+        for _ in range(12):  # until the list has gaps
+            query = random_query(source, columns)
+            rows = answers(seen, query, columns)
+            if 0 < len(rows) < (len(seen) // 2) ** columns:
+                break
+        compare("random job %d with a party" % job, printed(random_file(source, table, query, columns, party)), listed(rows))
+        parted += 2 < len(seen) < len(tree)
+        gaps += 0 < len(rows) < (len(seen) // 2) ** columns
+    if 2 * parted < count or 2 * gaps < count:
+        problems.append("of %d random jobs with a party only %d show it some nodes, and %d have lists with gaps" % (count, parted, gaps))
+
+
+REFUSED = {"refused": refused(6, 1), "firm-three": refused(31), "third-owner": refused(30, 10)}
+
+
 def examples():
     """The examples are what their script makes, and print what stands beside them, by ./picklist too."""
-    for name, (tree, query, columns) in make.JOBS.items():
+    for name, parts in make.JOBS.items():
+        tree, query, columns = parts[:3]
+        tree = reference.seen(tree, parts[3]) if len(parts) == 4 and name not in REFUSED else tree
         with open(os.path.join(EXAMPLES, name + ".job"), "rb") as job, open(os.path.join(EXAMPLES, name + ".out"), "rb") as out:
             job, out = job.read(), out.read()
-        compare("make.py, %s" % name, make.job(tree, query, columns), job)
+        compare("make.py, %s" % name, make.job(*parts), job)
         compare("the example %s" % name, printed(job), out)
         compare("./picklist on the example %s" % name, printed(job, os.path.join(ROOT, "picklist")), out)
-        compare("the evaluator on %s" % name, refused(6, 1) if name == "refused" else listed(answers(tree, query, columns)), out)
+        compare("the evaluator on %s" % name, REFUSED[name] if name in REFUSED else listed(answers(tree, query, columns)), out)
     made = {name + suffix for name in make.JOBS for suffix in (".job", ".out")} | {"make.py", "README.md", "typed.c"}
     if set(os.listdir(EXAMPLES)) != made:
         problems.append("examples/ has other files than make.py's jobs, typed.c and README.md")
@@ -357,6 +506,7 @@ def inputs():
     for step in 1, 7, 91:
         compare("a pipe, %d bytes at a time" % step, fed(WHOLE, step), ROWS)
     compare("a pipe of 4,096 bytes, 5 at a time", fed(sized(4096), 5), ROWS)
+    compare("a pipe of 4,096 bytes with a party, 3 at a time", fed(shared_sized(4096), 3), ROWS)
     compare("a pipe of 4,097 bytes that stays open", fed(sized(4097), 1000, closes=False), refused(1))
     closed = subprocess.run(["sh", "-c", 'exec "$0" <&-', PROGRAM], stdout=subprocess.PIPE, timeout=300)
     compare("a closed input", closed.stdout, b"")
@@ -368,6 +518,8 @@ for name, bytes_of, wanted in FILES:
     compare(name, printed(bytes_of), wanted)
 for name, tree, query, columns, wanted in TABLES:
     compare(name, printed(make.job(tree, query, columns)), wanted)
+for name, tree, query, columns, party, wanted in PARTIES:
+    compare(name, printed(make.job(tree, query, columns, party)), wanted)
 for name, tree, query, columns, rows in TESTS + LONG:
     compare(name, printed(make.job(tree, query, columns)), listed(rows))
 for name, keeps, query in THREE:
@@ -377,4 +529,5 @@ for name, keeps, query in THREE:
 examples()
 inputs()
 random_jobs(200)
+shared_jobs(200)
 end(problems)

@@ -55,6 +55,18 @@ class Tree:
         return sum(1 << y for y in range(self.n) if (self.tag[y] != DOCUMENT if test == STAR else self.tag[y] == test))
 
 
+def seen(table, party):
+    """The tree table, two numbers a node, of what a party sees of a shared table: the nodes that are common or its own, and so is
+    each node above them. They are renumbered without gaps."""
+    parents, tags, owners = table[0::3], table[1::3], table[2::3]
+
+    def shown(x):
+        return owners[x] in (0, party) and (x == 0 or shown(parents[x]))
+
+    nodes = [x for x in range(len(tags)) if shown(x)]
+    return [number for x in nodes for number in (nodes.index(parents[x]) if x else parents[x], tags[x])]
+
+
 def evaluated(tree, query, assignment):
     """Every entry of a query table: a relation for a path, a set for a node expression."""
     n, values = tree.n, []

@@ -2,7 +2,7 @@
 use Prim.Native.Nat.{ℕ, _<_, _≤_}
 use native.Mathlib.Omega.{arith}
 use mathlib.Core.Path.{_≡_, refl}
-use mathlib.Core.Bool.{true, false}
+use mathlib.Core.Bool.{true}
 use mathlib.Core.List.{List, [], _∷_, _++_}
 use lib.Dec.{ltb}
 use lib.ListN.{length, getD}
@@ -25,7 +25,7 @@ use Rattle.checks.proofs.Verdicts.{zero-of, cursor-numbered}
 use Rattle.tree.specs.Links.{PreviousSiblings}
 use Rattle.answers.specs.declared.Paged.{Paged}
 use Rattle.model.specs.Services.{pageOutcome, PageLeaves}
-use Rattle.answers.specs.Search.{Searchable}
+use Rattle.answers.specs.Search.{Searchable, refusedPage}
 
 -- An accepted call.
 
@@ -71,10 +71,9 @@ quick-few t q columns c room v p z =
 -- What a call leaves.
 
 module _ (t q : List ℕ) (columns : ℕ) (c : Cursor) (buffer : List ℕ) (v : Reply) (p : v ≡ verdict (pageChecks t q columns c (length buffer))) where
-  pub page-refused : (v .number ≡ 0 → ⊥)
-      → PageLeaves (pageOutcome t q columns c buffer) (record { number = v .number; place = v .place; count = 0; more = false }) c buffer
+  pub page-refused : (r : Paged) → r ≡ refusedPage v c → (v .number ≡ 0 → ⊥) → PageLeaves (pageOutcome t q columns c buffer) (r .reply) (r .cursor) buffer
   unfolding pageOutcome
-  page-refused z = rw (← p, ne-eqb (v .number) 0 z) (refl, refl, refl)
+  page-refused r e z = rw (e, ← p, ne-eqb (v .number) 0 z) (refl, refl, refl)
 
   pub page-accepted : v .number ≡ 0 → (r : Paged) (rows : List ℕ) → PageLeaves (paged columns (answers t q columns) c buffer) (r .reply) (r .cursor) rows
       → PageLeaves (pageOutcome t q columns c buffer) (r .reply) (r .cursor) rows

@@ -19,8 +19,9 @@ use Rattle.model.specs.Refusals.{verdict}
 use Rattle.model.specs.Checks.{pageChecks, quickChecks}
 use Rattle.model.proofs.Booleans.{Seen, yes!, no!, seen, no-yes, bool-ext}
 use Rattle.model.proofs.Answers.{Wide, Rising, answers-rising, answers-wide}
-use Rattle.model.specs.Services.{judged, pageOutcome, quickOutcome, pageReply}
-use Rattle.answers.specs.Calls.{Lent, Call, outcomeOf, Meets, Chain, Asked, lentTo, OneChain, accepted, Alike, rowsIn, rowsGiven, roomOf, rooms, answersOf, answersAfter, cursorAfter, Page, NoPage, Tells, Paging, Demand3}
+use Rattle.model.specs.Parties.{sharedVerdict, overSeen}
+use Rattle.model.specs.Services.{judged, pageOutcome, quickOutcome, pageReply, seenPage, seenQuick}
+use Rattle.answers.specs.Calls.{Lent, Listing, listingOf, Call, outcomeOf, Meets, Chain, Asked, lentTo, OneChain, accepted, Alike, rowsIn, rowsGiven, roomOf, rooms, answersOf, answersAfter, cursorAfter, Page, NoPage, Tells, Paging, Demand3}
 use Rattle.answers.proofs.Accepted.{page-few, quick-few}
 use Rattle.answers.proofs.Paging.{in-take, in-after, rows-back, after-page, after-part, some-rest, some-after}
 use Rattle.answers.proofs.Writing.{flat-long}
@@ -38,31 +39,52 @@ settled c g d = λ i. record { quick = g .quick; lent = g .lent; lentBuffer = g 
 -- what holds of an accepted call and of a refused one holds of any call
 module _ (P : Call → Type 0) where
   by-verdict : (quick : Bool) (l : Lent) (c : Cursor) (buffer : List ℕ) (v : Reply) → (v .number ≡ 0 → l .columns ≤ 3)
-      → (eqb (judged v (l .columns) (answersOf l) c buffer .number) 0 ≡ true → l .columns ≤ 3 → P (went quick l c buffer (paged (l .columns) (answersOf l) c buffer)))
+      → (eqb (judged v (l .columns) (answersOf (listingOf l)) c buffer .number) 0 ≡ true → l .columns ≤ 3 → P (went quick l c buffer (paged (l .columns) (answersOf (listingOf l)) c buffer)))
       → ((v : Reply) → eqb (v .number) 0 ≡ false → P (went quick l c buffer (unpaged v c buffer)))
-      → P (went quick l c buffer (judged v (l .columns) (answersOf l) c buffer))
+      → P (went quick l c buffer (judged v (l .columns) (answersOf (listingOf l)) c buffer))
   by-verdict quick l c buffer v few pages stops = go (seen (eqb (v .number) 0))
     where
-      go : Seen (eqb (v .number) 0) → P (went quick l c buffer (judged v (l .columns) (answersOf l) c buffer))
+      go : Seen (eqb (v .number) 0) → P (went quick l c buffer (judged v (l .columns) (answersOf (listingOf l)) c buffer))
       go (yes! t) = rw t (pages (rw t refl) (few (eqb-true (v .number) 0 t)))
       go (no! t) = rw t (stops v t)
 
+  -- what holds over the tree that the party sees, and of a refused call, holds over the shared table
+  by-table : (quick : Bool) (l : Lent) (c : Cursor) (buffer : List ℕ) (f : List ℕ → Outcome) (R : Type 0)
+      → ((eqb (f (listingOf l .tree) .number) 0 ≡ true → R) → P (went quick l c buffer (f (listingOf l .tree))))
+      → (eqb (overSeen (l .tree) (l .party) (λ v. unpaged v c buffer) f .number) 0 ≡ true → R)
+      → ((v : Reply) → eqb (v .number) 0 ≡ false → P (went quick l c buffer (unpaged v c buffer)))
+      → P (went quick l c buffer (overSeen (l .tree) (l .party) (λ v. unpaged v c buffer) f))
+  unfolding overSeen
+  by-table quick l c buffer f R over pages stops = go (seen (eqb (sharedVerdict (l .tree) (l .party) .number) 0))
+    where
+      go : Seen (eqb (sharedVerdict (l .tree) (l .party) .number) 0) → P (went quick l c buffer (overSeen (l .tree) (l .party) (λ v. unpaged v c buffer) f))
+      go (yes! t) = rw t (over (λ e. pages (rw t e)))
+      go (no! t) = rw t (stops (sharedVerdict (l .tree) (l .party)) t)
+
   -- a quick call and a plain one differ by the verdict alone
   by-outcome : (quick : Bool) (l : Lent) (c : Cursor) (buffer : List ℕ)
-      → (eqb (outcomeOf quick l c buffer .number) 0 ≡ true → l .columns ≤ 3 → P (went quick l c buffer (paged (l .columns) (answersOf l) c buffer)))
+      → (eqb (outcomeOf quick l c buffer .number) 0 ≡ true → l .columns ≤ 3 → P (went quick l c buffer (paged (l .columns) (answersOf (listingOf l)) c buffer)))
       → ((v : Reply) → eqb (v .number) 0 ≡ false → P (went quick l c buffer (unpaged v c buffer)))
       → P (went quick l c buffer (outcomeOf quick l c buffer))
-  unfolding pageOutcome quickOutcome
-  by-outcome true l c buffer =
-      by-verdict true l c buffer (verdict (quickChecks (l .tree) (l .query) (l .columns) c (length buffer)))
-      (quick-few (l .tree) (l .query) (l .columns) c (length buffer) (verdict (quickChecks (l .tree) (l .query) (l .columns) c (length buffer))) refl)
-  by-outcome false l c buffer =
-      by-verdict false l c buffer (verdict (pageChecks (l .tree) (l .query) (l .columns) c (length buffer)))
-      (page-few (l .tree) (l .query) (l .columns) c (length buffer) (verdict (pageChecks (l .tree) (l .query) (l .columns) c (length buffer))) refl)
+  unfolding seenPage seenQuick pageOutcome quickOutcome
+  by-outcome true l c buffer pages stops =
+      let t = listingOf l .tree in
+      by-table true l c buffer (λ u. quickOutcome u (l .query) (l .columns) c buffer) (l .columns ≤ 3 → P (went true l c buffer (paged (l .columns) (answersOf (listingOf l)) c buffer)))
+      (λ accept.
+      by-verdict true l c buffer (verdict (quickChecks t (l .query) (l .columns) c (length buffer)))
+      (quick-few t (l .query) (l .columns) c (length buffer) (verdict (quickChecks t (l .query) (l .columns) c (length buffer))) refl) accept stops)
+      pages stops
+  by-outcome false l c buffer pages stops =
+      let t = listingOf l .tree in
+      by-table false l c buffer (λ u. pageOutcome u (l .query) (l .columns) c buffer) (l .columns ≤ 3 → P (went false l c buffer (paged (l .columns) (answersOf (listingOf l)) c buffer)))
+      (λ accept.
+      by-verdict false l c buffer (verdict (pageChecks t (l .query) (l .columns) c (length buffer)))
+      (page-few t (l .query) (l .columns) c (length buffer) (verdict (pageChecks t (l .query) (l .columns) c (length buffer))) refl) accept stops)
+      pages stops
 
   by-call : (c : Cursor) (g : Call) → Meets c g
       → (accepted g ≡ true → g .lent .columns ≤ 3
-      → P (went (g .quick) (g .lent) c (g .lentBuffer) (paged (g .lent .columns) (answersOf (g .lent)) c (g .lentBuffer))))
+      → P (went (g .quick) (g .lent) c (g .lentBuffer) (paged (g .lent .columns) (answersOf (listingOf (g .lent))) c (g .lentBuffer))))
       → ((v : Reply) → eqb (v .number) 0 ≡ false → P (went (g .quick) (g .lent) c (g .lentBuffer) (unpaged v c (g .lentBuffer))))
       → P g
   by-call c g d pages stops =
@@ -78,8 +100,8 @@ take-min xs m = go (decLe m (length xs))
     go (yes h) = let e : min (length xs) m ≡ m = omega arith in rw e
     go (no h) = take-all m xs (omega arith) ∙ sym (take-all (min (length xs) m) xs (omega arith))
 
-page-due : (quick : Bool) (l : Lent) (c : Cursor) (buffer : List ℕ) → Page c (went quick l c buffer (paged (l .columns) (answersOf l) c buffer))
-page-due quick l c buffer =
+page-due : (quick : Bool) (g : Lent) (c : Cursor) (buffer : List ℕ) → Page c (went quick g c buffer (paged (g .columns) (answersOf (listingOf g)) c buffer))
+page-due quick g c buffer =
     record {
       count = long;
       rows = back ∙ take-min (answersAfter l c) r;
@@ -88,6 +110,9 @@ page-due quick l c buffer =
       cursor = ap (moved c) (sym back);
     }
   where
+    l : Listing
+    l = listingOf g
+
     k : ℕ
     k = l .columns
 
@@ -120,23 +145,26 @@ no-page c g d =
 -- Calls that page through the same answers.
 
 -- what one call gave, where the answers from m on were those after the cursor
-record Step (l : Lent) (m : ℕ) (g : Call) : Type 0 where
+record Step (l : Listing) (m : ℕ) (g : Call) : Type 0 where
   wrote : rowsIn (g .lent .columns) (g .reply .count) (g .buffer) ≡ take (roomOf g) (drop m (answersOf l))
   count : g .reply .count ≡ min (roomOf g) (length (answersOf l) - m)
   next : after (l .columns) (answersOf l) (g .cursor) ≡ drop (m + roomOf g) (answersOf l)
   more : accepted g ≡ true → g .reply .more ≡ ltb (min (length (answersOf l)) (m + roomOf g)) (length (answersOf l))
 
 -- an accepted call
-step-accepted : (quick : Bool) (c : Cursor) (m : ℕ) (l : Lent) (buffer : List ℕ) → l .columns ≤ 3 → after (l .columns) (answersOf l) c ≡ drop m (answersOf l)
-    → Step l m (went quick l c buffer (paged (l .columns) (answersOf l) c buffer))
-step-accepted quick c m l buffer small h =
+step-accepted : (quick : Bool) (c : Cursor) (m : ℕ) (g : Lent) (buffer : List ℕ) → g .columns ≤ 3
+    → answersAfter (listingOf g) c ≡ drop m (answersOf (listingOf g)) → Step (listingOf g) m (went quick g c buffer (paged (g .columns) (answersOf (listingOf g)) c buffer))
+step-accepted quick c m g buffer small h =
     record {
-      wrote = page-due quick l c buffer .rows ∙ sym (take-min (after k L c) r) ∙ ap (λ (z : List Row). take r z) h;
+      wrote = page-due quick g c buffer .rows ∙ sym (take-min (after k L c) r) ∙ ap (λ (z : List Row). take r z) h;
       count = rw (h, length-take r (drop m L), length-drop m L);
       next = after-page k L rising wide small c m r h;
       more = λ _. rw h (some-after k L rising wide small m r);
     }
   where
+    l : Listing
+    l = listingOf g
+
     k : ℕ
     k = l .columns
 
@@ -153,7 +181,7 @@ step-accepted quick c m l buffer small h =
     r = length buffer / l .columns
 
 -- a refused call, whatever it is lent
-step-refused : (quick : Bool) (l : Lent) (c : Cursor) (m : ℕ) (l₁ : Lent) (buffer : List ℕ) (v : Reply) → after (l .columns) (answersOf l) c ≡ drop m (answersOf l)
+step-refused : (quick : Bool) (l : Listing) (c : Cursor) (m : ℕ) (l₁ : Lent) (buffer : List ℕ) (v : Reply) → after (l .columns) (answersOf l) c ≡ drop m (answersOf l)
     → eqb (v .number) 0 ≡ false → Step l m (went quick l₁ c buffer (unpaged v c buffer))
 step-refused quick l c m l₁ buffer v h t =
     record {
@@ -164,17 +192,17 @@ step-refused quick l c m l₁ buffer v h t =
     }
 
 -- one call from a place on
-step : (l : Lent) (c : Cursor) (m : ℕ) (g : Call) → after (l .columns) (answersOf l) c ≡ drop m (answersOf l) → Meets c g
-    → (accepted g ≡ true → g .lent ≡ l) → Step l m g
+step : (l : Listing) (c : Cursor) (m : ℕ) (g : Call) → after (l .columns) (answersOf l) c ≡ drop m (answersOf l) → Meets c g
+    → (accepted g ≡ true → listingOf (g .lent) ≡ l) → Step l m g
 step l c m g h d alike =
     by-call (Step l m) c g d
     (λ t few.
     subst
-    (λ (z : Lent). answersAfter z c ≡ drop m (answersOf z) → Step z m (went (g .quick) (g .lent) c (g .lentBuffer) (paged (g .lent .columns) (answersOf (g .lent)) c (g .lentBuffer))))
+    (λ (z : Listing). answersAfter z c ≡ drop m (answersOf z) → Step z m (went (g .quick) (g .lent) c (g .lentBuffer) (paged (g .lent .columns) (answersOf (listingOf (g .lent))) c (g .lentBuffer))))
     (alike t) (step-accepted (g .quick) c m (g .lent) (g .lentBuffer) few) h)
     (λ v t. step-refused (g .quick) l c m (g .lent) (g .lentBuffer) v h t)
 
-module _ (l : Lent) where
+module _ (l : Listing) where
   -- the rows that a list of calls wrote, from answer m on
   rows-from : (gs : List Call) (c : Cursor) (m : ℕ) → after (l .columns) (answersOf l) c ≡ drop m (answersOf l) → Chain c gs → Alike l gs
       → rowsGiven gs ≡ take (rooms gs) (drop m (answersOf l))
@@ -251,7 +279,7 @@ met-at gs before later g c ch e = met before later g c (subst (λ (z : List Call
 -- it is lent: an accepted call's count is the number of rows after its cursor or, if they are fewer, the whole rows of its
 -- buffer, its rows are as many of those, it says that there is more exactly if there are others after them, and it moves the
 -- cursor to the last; a refused one leaves cursor and buffer as they were, counts nothing and says that there is no more. And
--- where all accepted calls are lent the same tree, query and number of variables: the rows written, in the order of the calls,
+-- where all accepted calls are for a party that sees the same tree, and lent the same query and number of variables: the rows written, in the order of the calls,
 -- are the first m of the answers, if the first cursor is fresh, or of those after it, m being the smaller of their number and the
 -- sum of the whole rows that the accepted calls had room for; the count of each call is what it added to m; an accepted call says
 -- that there is more exactly if m after it is below their number.

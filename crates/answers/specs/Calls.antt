@@ -1,4 +1,5 @@
--- A list of page calls, plain and quick ones (document 02, §7) in any order, and what demand 3 says of it.
+-- A list of page calls, plain and quick ones (document 02, §7) in any order, over shared tables and for parties (§8), and what demand 3
+-- says of it.
 use Prim.Native.Nat.{ℕ, zero, suc, _+_, _*_, _/_, min}
 use mathlib.Core.Path.{_≡_}
 use mathlib.Core.Bool.{Bool, true, false, cond}
@@ -9,15 +10,26 @@ use Rattle.model.specs.declared.Cursor.{Cursor}
 use Rattle.model.specs.declared.PageReply.{PageReply}
 use Rattle.model.specs.Answers.{Row, answers}
 use Rattle.model.specs.Pages.{Outcome, hasBegun, after, moved}
-use Rattle.model.specs.Services.{pageOutcome, quickOutcome, PageLeaves}
+use Rattle.model.specs.Parties.{seenTable}
+use Rattle.model.specs.Services.{seenPage, seenQuick, PageLeaves}
 
 -- Calls.
 
 -- what a page call is lent beside its cursor and its buffer
 pub record Lent : Type 0 where
   pub tree : List ℕ
+  pub party : ℕ
   pub query : List ℕ
   pub columns : ℕ
+
+-- whose answers a call pages through: the tree that its party sees, the query and the number of variables
+pub record Listing : Type 0 where
+  pub tree : List ℕ
+  pub query : List ℕ
+  pub columns : ℕ
+
+abbrev pub listingOf : Lent → Listing
+listingOf l = record { tree = seenTable (l .tree) (l .party); query = l .query; columns = l .columns }
 
 -- one page call as it went: whether it was a quick one, what it was lent, its buffer as it was lent, its reply (of a quick one that
 -- but for the evaluations), and its cursor and its buffer as it returned
@@ -32,7 +44,9 @@ pub record Call : Type 0 where
 -- the outcome that the contract of `page` says, or that of the quick page, of a call that is lent l, the cursor c and a buffer
 abbrev pub outcomeOf : Bool → Lent → Cursor → List ℕ → Outcome
 outcomeOf quick l c buffer =
-    cond quick (quickOutcome (l .tree) (l .query) (l .columns) c buffer) (pageOutcome (l .tree) (l .query) (l .columns) c buffer)
+    cond quick
+    (seenQuick (l .tree) (l .party) (l .query) (l .columns) c buffer)
+    (seenPage (l .tree) (l .party) (l .query) (l .columns) c buffer)
 
 -- the call, lent the cursor c, did what its contract says
 abbrev pub Meets : Cursor → Call → Type 0
@@ -76,12 +90,12 @@ rowsOf g = rowsIn (g .lent .columns) (g .reply .count) (g .buffer)
 abbrev pub wholeRows : Call → ℕ
 wholeRows g = length (g .lentBuffer) / g .lent .columns
 
--- the answers that calls page through which are lent l
-abbrev pub answersOf : Lent → List Row
+-- the answers of a listing
+abbrev pub answersOf : Listing → List Row
 answersOf l = answers (l .tree) (l .query) (l .columns)
 
 -- those of them that stand after a cursor's row; all of them where the cursor has not begun
-abbrev pub answersAfter : Lent → Cursor → List Row
+abbrev pub answersAfter : Listing → Cursor → List Row
 answersAfter l c = after (l .columns) (answersOf l) c
 
 -- One call, whatever it is lent.
@@ -94,16 +108,16 @@ cursorAfter c (g ∷ gs) = cursorAfter (g .cursor) gs
 -- the number of rows that document 01 puts on the page of a call that was lent the cursor c: the rows after the cursor or, if
 -- they are fewer, the whole rows of its buffer
 abbrev pub due : Cursor → Call → ℕ
-due c g = min (length (answersAfter (g .lent) c)) (wholeRows g)
+due c g = min (length (answersAfter (listingOf (g .lent)) c)) (wholeRows g)
 
 -- what an accepted call did that was lent the cursor c: its count is the number of rows due; it wrote so many of the rows after
 -- the cursor, the first of them, and kept the numbers beyond; it says that there is more exactly if there are rows after those;
 -- the cursor moved to the last row written, and is unmoved with none written
 pub record Page (c : Cursor) (g : Call) : Type 0 where
   pub count : g .reply .count ≡ due c g
-  pub rows : rowsOf g ≡ take (due c g) (answersAfter (g .lent) c)
+  pub rows : rowsOf g ≡ take (due c g) (answersAfter (listingOf (g .lent)) c)
   pub beyond : drop (due c g * g .lent .columns) (g .buffer) ≡ drop (due c g * g .lent .columns) (g .lentBuffer)
-  pub more : g .reply .more ≡ ltb (due c g) (length (answersAfter (g .lent) c))
+  pub more : g .reply .more ≡ ltb (due c g) (length (answersAfter (listingOf (g .lent)) c))
   pub cursor : g .cursor ≡ moved c (rowsOf g)
 
 -- what a refused call did that was lent the cursor c: nothing
@@ -115,10 +129,11 @@ pub record NoPage (c : Cursor) (g : Call) : Type 0 where
 
 -- Calls that page through the same answers.
 
--- every accepted call was lent l, be it quick or not; a refused one may have been lent anything
-abbrev pub Alike : Lent → List Call → Type 0
+-- every accepted call pages through l, be it quick or not: its party sees that tree, and it was lent that query and number of variables;
+-- a refused one may have been lent anything
+abbrev pub Alike : Listing → List Call → Type 0
 Alike l [] = Unit
-Alike l (g ∷ gs) = (accepted g ≡ true → g .lent ≡ l) × Alike l gs
+Alike l (g ∷ gs) = (accepted g ≡ true → listingOf (g .lent) ≡ l) × Alike l gs
 
 -- the rows that the calls wrote, in the order of the calls
 abbrev pub rowsGiven : List Call → List Row
@@ -150,10 +165,10 @@ pub record Paging (rows : List Row) (gs : List Call) : Type 0 where
   pub each : (before later : List Call) (g : Call) → gs ≡ before ++ (g ∷ later) → Tells rows before g
 
 -- Demand 3, of calls from the cursor c on: each page, whatever the cursor and whatever else each call was lent, is the one that
--- is due; and where all accepted calls were lent l, they page through the answers, if the cursor was fresh, and through those
+-- is due; and where all accepted calls are for the same listing, they page through its answers, if the cursor was fresh, and through those
 -- after it from any other.
 pub record Demand3 (c : Cursor) (gs : List Call) : Type 0 where
   pub page : (before later : List Call) (g : Call) → gs ≡ before ++ (g ∷ later) → accepted g ≡ true → Page (cursorAfter c before) g
   pub refused : (before later : List Call) (g : Call) → gs ≡ before ++ (g ∷ later) → accepted g ≡ false → NoPage (cursorAfter c before) g
-  pub fresh : (l : Lent) → Alike l gs → hasBegun c ≡ false → Paging (answersOf l) gs
-  pub resumed : (l : Lent) → Alike l gs → Paging (answersAfter l c) gs
+  pub fresh : (l : Listing) → Alike l gs → hasBegun c ≡ false → Paging (answersOf l) gs
+  pub resumed : (l : Listing) → Alike l gs → Paging (answersAfter l c) gs

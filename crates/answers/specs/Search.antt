@@ -1,7 +1,7 @@
 -- How the code goes through the rows: what its inner functions ask for and give.
 use Prim.Native.Nat.{ℕ, _≤_}
 use mathlib.Core.Path.{_≡_}
-use mathlib.Core.Bool.{Bool, true, cond}
+use mathlib.Core.Bool.{Bool, true, false, cond}
 use mathlib.Core.List.{List, [], _∷_}
 use lib.ListN.{length, take}
 use Rattle.model.specs.Tree.{sizeOf}
@@ -13,6 +13,7 @@ use Rattle.eval.specs.Evaluation.{OfKind}
 use Rattle.answers.specs.declared.Spot.{Spot}
 use Rattle.answers.specs.declared.Paged.{Paged}
 use Rattle.model.specs.declared.Cursor.{Cursor}
+use Rattle.model.specs.declared.Reply.{Reply}
 
 -- the row of a spot for k variables; its numbers from k on are ignored
 abbrev pub rowAt : ℕ → Spot → Row
@@ -37,3 +38,7 @@ pub record Searchable (t prev q : List ℕ) (k : ℕ) : Type 0 where
 -- the result of the by-value page function, for an accepted call
 abbrev pub pageOf : ℕ → Bool → Cursor → Paged
 pageOf count more c = record { reply = record { number = 0; place = 0; count = count; more = more }; cursor = c }
+
+-- the page of a refused call
+abbrev pub refusedPage : Reply → Cursor → Paged
+refusedPage v c = record { reply = record { number = v .number; place = v .place; count = 0; more = false }; cursor = c }

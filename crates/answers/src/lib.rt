@@ -9,9 +9,9 @@ ghost use lib.Seq.{paste};
 ghost use Rattle.model.specs.Tree.{sizeOf};
 ghost use Rattle.model.specs.Answers.{less, keep, allRows, satisfied, answers};
 ghost use Rattle.model.specs.Pages.{rowOf, hasBegun, after, atRow, paged};
-ghost use Rattle.model.specs.Accepted.{Below};
+ghost use Rattle.model.specs.Accepted.{AcceptedTree, Below};
 ghost use Rattle.model.specs.Services.{pageOutcome, PageLeaves};
-ghost use Rattle.answers.specs.Search.{ahead, Stands, Searchable, pageOf};
+ghost use Rattle.answers.specs.Search.{ahead, Stands, Searchable, pageOf, refusedPage};
 
 // The reply to a page call, and the cursor after it.
 pub struct Paged {
@@ -226,8 +226,23 @@ fn write_page(
     page_of(count, false, last)
 }
 
-// The page after a cursor, by value: the reply, and the cursor after it. The tree and the query are checked, and the
-// previous siblings found, once a call.
+// The reply to a refused call, and the cursor as it was.
+pub fn refused(v: model::Reply, cursor: model::Cursor) -> Paged
+    ensures { λ r. ⌜ r ≡ refusedPage v cursor ⌝ }
+{
+    Paged {
+        reply: model::PageReply {
+            number: v.number,
+            place: v.place,
+            count: 0,
+            more: false,
+        },
+        cursor: cursor,
+    }
+}
+
+// The page after a cursor over an accepted tree, by value: the reply, and the cursor after it. The query is checked, and the previous
+// siblings found, once a call.
 pub fn page_from(
     tree: &[u16],
     query: &[u16],
@@ -235,6 +250,7 @@ pub fn page_from(
     cursor: model::Cursor,
     rows: &mut [u16],
 ) -> Paged
+    requires { ⌜ AcceptedTree (now tree) ⌝ }
     ensures { λ r.
         ⌜
         PageLeaves (pageOutcome (now (tree .entry)) (now (query .entry)) columns cursor (now (rows .entry)))
@@ -243,35 +259,8 @@ pub fn page_from(
 {
     let v = checks::check_page(tree, query, columns, cursor, rows.len());
     if v.number != 0 {
-        return Paged {
-            reply: model::PageReply {
-                number: v.number,
-                place: v.place,
-                count: 0,
-                more: false,
-            },
-            cursor: cursor,
-        };
+        return refused(v, cursor);
     }
     let prev = tree::previous_siblings(tree);
     write_page(tree, &prev, query, columns, cursor, rows)
-}
-
-// The service: the page after the cursor that is lent, which moves on to the last row written.
-pub fn page(
-    tree: &[u16],
-    query: &[u16],
-    columns: usize,
-    cursor: &mut model::Cursor,
-    rows: &mut [u16],
-) -> model::PageReply
-    ensures { λ r.
-        ⌜
-        PageLeaves (pageOutcome (now (tree .entry)) (now (query .entry)) columns (now (cursor .entry)) (now (rows .entry)))
-        r (now (cursor .exit)) (now (rows .exit))
-        ⌝ }
-{
-    let p = page_from(tree, query, columns, *cursor, rows);
-    *cursor = p.cursor;
-    p.reply
 }

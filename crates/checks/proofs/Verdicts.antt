@@ -12,8 +12,9 @@ use Rattle.model.specs.declared.Cursor.{Cursor}
 use Rattle.model.specs.declared.Reply.{Reply}
 use Rattle.model.specs.Tree.{sizeOf}
 use Rattle.model.specs.Refusals.{Check, lowest, verdict, reply}
-use Rattle.model.specs.Checks.{badNode, treeChecks, queryChecks, nodeChecks, cursorChecks, setChecks, roomChecks, tableChecks}
+use Rattle.model.specs.Checks.{badNode, treeChecksAt, treeChecks, queryChecks, nodeChecks, cursorChecks, setChecks, roomChecks, tableChecks}
 use Rattle.model.specs.Pages.{rowOf, hasBegun}
+use Rattle.model.specs.Accepted.{AcceptedTree}
 use Rattle.model.proofs.Refusals.{Passes-front, numbered, accepted, stop-at, pass-at, stop-all, pass-all}
 use Rattle.model.proofs.Accepted.{tree-ordered, columns-most, tree-numbered, query-numbered}
 
@@ -24,7 +25,7 @@ zero-of cs r p z = ap (λ (r : Reply). r .number) (sym p) ∙ z
 -- The checks have numbers other than 0.
 
 pub tables-numbered : (t q : List ℕ) (columns : ℕ) (nodes : List ℕ) → numbered (tableChecks t q columns nodes) ≡ true
-unfolding tableChecks nodeChecks numbered treeChecks queryChecks
+unfolding tableChecks nodeChecks numbered treeChecksAt queryChecks
 tables-numbered t q columns nodes = refl
 
 pub set-numbered : (t from : List ℕ) → numbered (setChecks t from) ≡ true
@@ -36,7 +37,7 @@ unfolding cursorChecks numbered
 cursor-numbered t columns c = refl
 
 pub listing-numbered : (t q : List ℕ) (columns : ℕ) → numbered (treeChecks t ++ queryChecks q 1 columns) ≡ true
-unfolding numbered treeChecks queryChecks
+unfolding numbered treeChecksAt queryChecks
 listing-numbered t q columns = refl
 
 -- A verdict over two lists, as the front of one over three.
@@ -49,6 +50,10 @@ module _ (a b c : List Check) (r : Reply) (p : r ≡ verdict (a ++ b)) where
   pass-both s q z n = pass-all (a ++ b) c r s q p z n ∙ ap verdict (append-assoc a b c)
 
 -- What earlier checks give the later ones.
+
+-- an accepted tree leaves the verdict to the checks behind its own
+pub tree-first : (t : List ℕ) (b : List Check) (s : Reply) → s ≡ verdict b → AcceptedTree t → s ≡ verdict (treeChecks t ++ b)
+tree-first t b s q w = pass-all (treeChecks t) b (verdict (treeChecks t)) s q refl w (tree-numbered t)
 
 -- an accepted query has at most three variables
 pub columns-few : (q : List ℕ) (least columns : ℕ) (r : Reply) → r ≡ verdict (queryChecks q least columns) → r .number ≡ 0 → columns ≤ 3

@@ -1,5 +1,5 @@
-// What the services check of all that they are lent: refusals 5 to 20, in their order. Each check is one pass, so that all of
-// it is linear in what is lent.
+// What the services check of all that they are lent: refusals 8 to 20, in their order, over a tree that has passed 5 to 7. Each check is
+// one pass, so that all of it is linear in what is lent.
 ghost use mathlib.Core.Path.{_≡_};
 ghost use mathlib.Core.Bool.{cond};
 ghost use mathlib.Core.List.{_++_};
@@ -8,6 +8,7 @@ ghost use lib.ListN.{length};
 ghost use Rattle.model.specs.Sets.{any};
 ghost use Rattle.model.specs.Tree.{sizeOf};
 ghost use Rattle.model.specs.Refusals.{lowest, verdict};
+ghost use Rattle.model.specs.Accepted.{AcceptedTree};
 ghost use Rattle.model.specs.Checks.{badNode, badByte, treeChecks, queryChecks, nodeChecks, cursorChecks, setChecks, roomChecks, tableChecks, imageChecks, pairsChecks, pageChecks};
 
 // What is lent beside the tables.
@@ -143,16 +144,13 @@ pub fn check_room(room: usize, needed: usize) -> model::Reply
     model::reply_at(0, 0)
 }
 
-// The checks of the services, each with what it is lent.
+// The checks of the services, each with what it is lent. The tree is an accepted one, and is not checked again.
 
 // The checks 5 to 17.
 pub fn check_tables(tree: &[u16], query: &[u16], columns: usize, nodes: &[u16]) -> model::Reply
+    requires { ⌜ AcceptedTree (now tree) ⌝ }
     ensures { λ r. ⌜ r ≡ verdict (tableChecks (now (tree .entry)) (now (query .entry)) columns (now (nodes .entry))) ⌝ }
 {
-    let t = tree::check_tree(tree);
-    if t.number != 0 {
-        return t;
-    }
     let q = query::check_query(query, columns);
     if q.number != 0 {
         return q;
@@ -169,6 +167,7 @@ pub fn check_image(
     from: &[u8],
     room: usize,
 ) -> model::Reply
+    requires { ⌜ AcceptedTree (now tree) ⌝ }
     ensures { λ r.
         ⌜
         r
@@ -202,6 +201,7 @@ pub fn check_pairs(
     nodes: &[u16],
     room: usize,
 ) -> model::Reply
+    requires { ⌜ AcceptedTree (now tree) ⌝ }
     ensures { λ r. ⌜ r ≡ verdict (pairsChecks (now (tree .entry)) (now (query .entry)) columns (now (nodes .entry)) room) ⌝ }
 {
     let v = check_tables(tree, query, columns, nodes);
@@ -213,12 +213,9 @@ pub fn check_pairs(
 
 // The checks 5 to 15 of a page: the tree and the query.
 pub fn check_listing(tree: &[u16], query: &[u16], columns: usize) -> model::Reply
+    requires { ⌜ AcceptedTree (now tree) ⌝ }
     ensures { λ r. ⌜ r ≡ verdict (treeChecks (now (tree .entry)) ++ queryChecks (now (query .entry)) 1 columns) ⌝ }
 {
-    let t = tree::check_tree(tree);
-    if t.number != 0 {
-        return t;
-    }
     query::check_query_for(query, 1, columns)
 }
 
@@ -247,6 +244,7 @@ pub fn check_page(
     cursor: model::Cursor,
     room: usize,
 ) -> model::Reply
+    requires { ⌜ AcceptedTree (now tree) ⌝ }
     ensures { λ r. ⌜ r ≡ verdict (pageChecks (now (tree .entry)) (now (query .entry)) columns cursor room) ⌝ }
 {
     let v = check_listing(tree, query, columns);

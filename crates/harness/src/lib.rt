@@ -2,5 +2,6 @@
 // tally of what was compared.
 pub mod chains;
 pub mod line;
+pub mod shared;
 pub mod table;
 pub mod tally;

@@ -102,6 +102,15 @@ pub fn put_in_row(rows: &mut Rows, at: usize, value: usize) {
     }
 }
 
+// Writes numbers to the front of a buffer for rows.
+pub fn copy_rows(numbers: &[u16], rows: &mut Rows) {
+    let mut k = 0;
+    while k < numbers.len() {
+        put_in_row(rows, k, at(numbers, k));
+        k += 1;
+    }
+}
+
 // How many numbers a table has.
 pub fn length(table: &Table) -> usize {
     let all = numbers(table);

@@ -2,7 +2,7 @@
 use super::table;
 
 // The replies by their number (0 to 36), and the sums below.
-pub type Tally = [u64; 64];
+pub type Tally = [u64; 68];
 
 // The kinds of the entries at which random queries break the rule of quick pages: bit k for kind k.
 pub const BREAKING: usize = 39;
@@ -65,8 +65,16 @@ pub const EVALUATIONS: usize = 62;
 
 pub const KEPT: usize = 63;
 
+// How many times a party asked for a random shared table, in how many of these a node was hidden from it, and in how many by an
+// ancestor alone.
+pub const SHARED: usize = 64;
+
+pub const HIDING: usize = 65;
+
+pub const THROUGH: usize = 66;
+
 pub fn add(tally: &mut Tally, at: usize, more: u64) {
-    if at < 64 {
+    if at < 68 {
         let sum = std::num::wrapping_add_u64(tally[at], more);
         tally[at] = sum;
     }
@@ -74,7 +82,7 @@ pub fn add(tally: &mut Tally, at: usize, more: u64) {
 
 // Number k, below 13, was met.
 pub fn meet(tally: &mut Tally, at: usize, k: usize) {
-    if at < 64 {
+    if at < 68 {
         if k < 13 {
             let bits = tally[at] | (1 << k);
             tally[at] = bits;
@@ -83,13 +91,13 @@ pub fn meet(tally: &mut Tally, at: usize, k: usize) {
 }
 
 fn clear(tally: &mut Tally, at: usize) {
-    if at < 64 {
+    if at < 68 {
         tally[at] = 0;
     }
 }
 
 fn sum_at(tally: &Tally, at: usize) -> u64 {
-    if at < 64 {
+    if at < 68 {
         return tally[at];
     }
     0
@@ -250,6 +258,18 @@ pub fn expect_kept(tally: &mut Tally, some: usize, of: usize) {
     expect(tally, sum_at(tally, BREAKING) == 1594);
 }
 
+// Of the random shared tables no fewer than some of so many hide a node from the party that asks.
+pub fn expect_hiding(tally: &mut Tally, some: usize, of: usize) {
+    let whole = sum_at(tally, SHARED);
+    expect_share(tally, HIDING, whole, some, of);
+}
+
+// The same of those that hide one whose owner does not, since an ancestor is hidden.
+pub fn expect_through(tally: &mut Tally, some: usize, of: usize) {
+    let whole = sum_at(tally, SHARED);
+    expect_share(tally, THROUGH, whole, some, of);
+}
+
 // The line for the part that ends here.
 fn show_part(tally: &mut Tally) {
     show_number(sum_at(tally, COMPARED_HERE), b" compared, ");
@@ -328,6 +348,13 @@ pub fn show_all(tally: &Tally) {
     );
     show_found(tally, DEEP, b"deep queries: ");
     show_found(tally, MIXED, b"of these with some pairs and not all: ");
+    show_found(tally, SHARED, b"parties asking for a random table: ");
+    show_found(tally, HIDING, b"of these with a node hidden: ");
+    show_found(
+        tally,
+        THROUGH,
+        b"of these with a node hidden by an ancestor alone: ",
+    );
     io::write_all(1, b"in all: ");
     show_number(sum_at(tally, COMPARED), b" compared, ");
     show_number(sum_at(tally, FAILED), b" failed\n");

@@ -1,6 +1,6 @@
 -- What holds of the index and the list of every accepted tree.
 use Prim.Native.Nat.{ℕ, _+_, _*_, _<_}
-use mathlib.Core.Path.{_≡_, refl}
+use mathlib.Core.Path.{_≡_}
 use mathlib.Core.List.{List}
 use lib.ListN.{length, getD}
 use Rattle.model.specs.Tree.{treeOf, sizeOf}
@@ -15,7 +15,7 @@ use Rattle.index.proofs.Verdicts.{tree-tagged}
 
 module _ (t : List ℕ) (h : verdict (treeChecks t) .number ≡ 0) where
   tagged : Tagged (treeOf t)
-  tagged = tree-tagged t (verdict (treeChecks t)) refl h
+  tagged = tree-tagged t h
 
   -- for the reader: the counts in the list add up to the number of nodes
   pub list-total : total (tagList (treeOf t)) ≡ sizeOf t

@@ -9,12 +9,13 @@ use lib.Seq.{take-at}
 use borrow.Author.Tests.{ltb-false, eq-eqb, ne-eqb}
 use Rattle.model.specs.Tree.{Tree, sizeOf, treeOf}
 use Rattle.model.specs.Refusals.{verdict, written}
-use Rattle.model.specs.Checks.{badTag, treeChecks, roomChecks}
+use Rattle.model.specs.Checks.{badTag, treeChecksAt, treeChecks, roomChecks}
 use Rattle.model.specs.declared.Reply.{Reply}
+use Rattle.model.specs.Accepted.{AcceptedTree}
 use Rattle.model.proofs.Exists.{none-of}
-use Rattle.model.proofs.Refusals.{Passes, numbered, accepted, stop-all, pass-all, written-over}
+use Rattle.model.proofs.Refusals.{Passes, numbered, accepted, written-over}
 use Rattle.model.proofs.Accepted.{tree-ordered, tag-below, tree-numbered}
-use Rattle.checks.proofs.Verdicts.{zero-of}
+use Rattle.checks.proofs.Verdicts.{zero-of, tree-first}
 use Rattle.index.specs.declared.IndexReply.{IndexReply}
 use Rattle.index.specs.Index.{firstFrom, present, tagList, buffersChecks, indexChecks, telling, ifAccepted, Leaves}
 use Rattle.index.specs.Parts.{Tagged, countFrom, Each}
@@ -23,10 +24,10 @@ use Rattle.index.proofs.Numbers.{count-past, tag-list-length}
 use Rattle.index.proofs.Totals.{tags-most}
 
 -- for the reader: an accepted tree has at most 256 nodes, and tags below 65535
-pub tree-tagged : (t : List ℕ) (v : Reply) → v ≡ verdict (treeChecks t) → v .number ≡ 0 → Tagged (treeOf t)
-unfolding treeChecks Passes
-tree-tagged t v p z =
-    let w : Passes (treeChecks t) = accepted (treeChecks t) (tree-numbered t) (zero-of (treeChecks t) v p z) in
+pub tree-tagged : (t : List ℕ) → AcceptedTree t → Tagged (treeOf t)
+unfolding treeChecksAt Passes
+tree-tagged t ok =
+    let w : Passes (treeChecks t) = accepted (treeChecks t) (tree-numbered t) ok in
     record {
       at-most = tree-ordered t w .sound .at-most;
       tags = λ x l. tag-below (treeOf t) x (none-of (sizeOf t) (badTag (treeOf t)) x (w .1 .1 .0) l);
@@ -57,14 +58,9 @@ pub room-numbered : (room needed : ℕ) → numbered (roomChecks room needed) �
 unfolding roomChecks numbered
 room-numbered room needed = refl
 
-module _ (t : List ℕ) (next tags : ℕ) (v : Reply) where
-  pub tree-stops : v ≡ verdict (treeChecks t) → (v .number ≡ 0 → ⊥) → v ≡ verdict (indexChecks t next tags)
-  unfolding indexChecks
-  tree-stops p z = stop-all (treeChecks t) (buffersChecks (treeOf t) next tags) v p z
-
-  pub buffers-decide : v ≡ verdict (treeChecks t) → v .number ≡ 0 → verdict (buffersChecks (treeOf t) next tags) ≡ verdict (indexChecks t next tags)
-  unfolding indexChecks
-  buffers-decide p z = pass-all (treeChecks t) (buffersChecks (treeOf t) next tags) v (verdict (buffersChecks (treeOf t) next tags)) refl p z (tree-numbered t)
+pub buffers-decide : (t : List ℕ) (next tags : ℕ) → AcceptedTree t → verdict (buffersChecks (treeOf t) next tags) ≡ verdict (indexChecks t next tags)
+unfolding indexChecks
+buffers-decide t next tags ok = tree-first t (buffersChecks (treeOf t) next tags) (verdict (buffersChecks (treeOf t) next tags)) refl ok
 
 pub buffers-verdict : (t : Tree) (next tags : ℕ) (list : List ℕ) (v : Reply) → v ≡ verdict (roomChecks next (t .size) ++ roomChecks tags (3 * length list)) → list ≡ present t → v ≡ verdict (buffersChecks t next tags)
 unfolding buffersChecks

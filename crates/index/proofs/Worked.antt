@@ -6,8 +6,8 @@ use Rattle.model.specs.Sets.{any, tab, ones}
 use Rattle.model.specs.Tree.{treeOf}
 use Rattle.model.specs.Axes.{climbs, descendant, descendantOrSelf}
 use Rattle.model.specs.Pages.{flat}
-use Rattle.model.specs.Refusals.{lowest, reply, verdict}
-use Rattle.model.specs.Checks.{badParent, treeChecks, roomChecks}
+use Rattle.model.specs.Refusals.{lowest, verdict}
+use Rattle.model.specs.Checks.{badParent, treeChecksAt, treeChecks, roomChecks}
 use Rattle.model.specs.Replies.{given, due}
 use Rattle.model.specs.Warehouse.{warehouse}
 use Rattle.index.specs.Index.{hasFrom, firstFrom, nextOf, nexts, indexOf, countOf, presentBelow, present, entryOf, tagList, buffersChecks, indexChecks}
@@ -33,8 +33,8 @@ pub warehouse-tags : tagList (treeOf warehouse) ≡ warehouseTags
 unfolding tagList
 warehouse-tags = ap (λ (l : List ℕ). flat (map (entryOf (treeOf warehouse)) l)) warehouse-present ∙ warehouse-entries
 
-warehouse-accepted : reply 0 0 ≡ verdict (treeChecks warehouse)
-unfolding warehouse verdict treeChecks badParent lowest descendant descendantOrSelf climbs any
+warehouse-accepted : verdict (treeChecks warehouse) .number ≡ 0
+unfolding warehouse verdict treeChecksAt badParent lowest descendant descendantOrSelf climbs any
 warehouse-accepted = refl
 
 warehouse-size : treeOf warehouse .size ≡ 6
@@ -43,9 +43,9 @@ warehouse-size = refl
 
 warehouse-rooms : (next tags : ℕ) → verdict (indexChecks warehouse next tags) ≡ verdict (roomChecks next 6 ++ roomChecks tags 9)
 unfolding buffersChecks
-warehouse-rooms next tags = sym (buffers-decide warehouse next tags (reply 0 0) warehouse-accepted refl) ∙ rw (warehouse-present, warehouse-size)
+warehouse-rooms next tags = sym (buffers-decide warehouse next tags warehouse-accepted) ∙ rw (warehouse-present, warehouse-size)
 
 -- every call gets the reply that is due
 pub index-replies : map given calls ≡ map due calls
-unfolding given due calls verdict indexChecks treeChecks roomChecks badParent lowest descendant descendantOrSelf climbs any
+unfolding given due calls verdict indexChecks treeChecksAt roomChecks badParent lowest descendant descendantOrSelf climbs any
 index-replies = rw (warehouse-rooms 6 9, warehouse-rooms 5 9, warehouse-rooms 6 8)

@@ -1,5 +1,5 @@
-// The service that makes the index of a tree: for each node the next later node of its tag, and the list of the tags present. It has
-// no precondition: what is malformed is refused, and then both buffers are left as they were.
+// The index of an accepted tree: for each node the next later node of its tag, and the list of the tags present. Where a buffer has too
+// little room both are left as they were.
 mod links;
 mod order;
 
@@ -10,6 +10,7 @@ ghost use lib.ListN.{length, drop};
 ghost use Rattle.model.specs.Tree.{treeOf, sizeOf};
 ghost use Rattle.model.specs.Refusals.{verdict};
 ghost use Rattle.model.specs.Checks.{roomChecks};
+ghost use Rattle.model.specs.Accepted.{AcceptedTree};
 ghost use Rattle.index.specs.Index.{indexOf, present, tagList, telling, IndexLeaves};
 ghost use Rattle.index.specs.Parts.{Tagged, BuffersLeave};
 
@@ -53,7 +54,7 @@ fn write(tree: &[u16], list: &[u16], next: &mut [u16], tags: &mut [u16])
 }
 
 // The verdict as a reply, with how many numbers were written to each buffer.
-fn reply(v: model::Reply, next: usize, tags: usize) -> IndexReply
+pub fn reply(v: model::Reply, next: usize, tags: usize) -> IndexReply
     ensures { λ r. ⌜ r ≡ telling v next tags ⌝ }
 {
     IndexReply {
@@ -83,32 +84,17 @@ fn fill(tree: &[u16], list: &[u16], next: &mut [u16], tags: &mut [u16]) -> Index
     reply(v, n, needed)
 }
 
-// The same for an accepted tree, the order of its tags found first.
-fn build_accepted(tree: &[u16], next: &mut [u16], tags: &mut [u16]) -> IndexReply
-    requires { ⌜ Tagged (treeOf (now tree)) ⌝ }
-    ensures { λ r.
-        ⌜
-        BuffersLeave (treeOf (now (tree .entry))) (now (next .entry)) (now (tags .entry))
-        r (now (next .exit)) (now (tags .exit))
-        ⌝ }
-{
-    let mut list = [0u16; 256];
-    let count = order::list_tags(tree, &mut list);
-    fill(tree, &list[..count], next, tags)
-}
-
 // The index of a tree, and the list of its tags. The order of the tags takes a pass over the nodes for each tag present, in vector
 // code, and the links a search by halves in that order for each node; all else is linear in n.
 pub fn build(tree: &[u16], next: &mut [u16], tags: &mut [u16]) -> IndexReply
+    requires { ⌜ AcceptedTree (now tree) ⌝ }
     ensures { λ r.
         ⌜
         IndexLeaves (now (tree .entry)) (now (next .entry)) (now (tags .entry))
         r (now (next .exit)) (now (tags .exit))
         ⌝ }
 {
-    let v = tree::check_tree(tree);
-    if v.number != 0 {
-        return reply(v, 0, 0);
-    }
-    build_accepted(tree, next, tags)
+    let mut list = [0u16; 256];
+    let count = order::list_tags(tree, &mut list);
+    fill(tree, &list[..count], next, tags)
 }

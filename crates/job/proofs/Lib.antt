@@ -1,2 +1,3 @@
 pub mod Files
+pub mod Widening
 pub mod Worked

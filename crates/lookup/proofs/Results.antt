@@ -99,7 +99,7 @@ pub own-index : (t to : List ℕ) (start tag : ℕ) → verdict (treeChecks t) .
     × (metBytes t (indexOf (treeOf t)) start tag ≡ tab (sizeOf t) (λ x. descendant (treeOf t) start x && eqb (treeOf t .tag x) tag))
 unfolding lookupChecks chainChecks roomChecks metBytes Passes
 own-index t to start tag h l room =
-    let o = tree-accepted t (verdict (treeChecks t)) refl h in (
+    let o = tree-accepted t h in (
       sym (pass-all (treeChecks t) _ (verdict (treeChecks t)) (reply 0 0)
           (sym (none-refused (chainChecks t (indexOf (treeOf t)) start tag ++ roomChecks (length to) (sizeOf t))
           (rw (lt-ltb start (sizeOf t) l), (rw (eq-eqb (length (indexOf (treeOf t))) (sizeOf t) (index-length (treeOf t))), (own-unbroken (treeOf t) o start tag, (le-ltb (length to) (sizeOf t) room, tt))))))

@@ -11,10 +11,10 @@ use Rattle.model.specs.declared.Reply.{Reply}
 use Rattle.model.specs.Tree.{treeOf, sizeOf}
 use Rattle.model.specs.Refusals.{Check, refuseHere, reply, verdict}
 use Rattle.model.specs.Checks.{treeChecks, roomChecks}
-use Rattle.model.specs.Accepted.{Ordered}
+use Rattle.model.specs.Accepted.{AcceptedTree, Ordered}
 use Rattle.model.proofs.Refusals.{numbered, accepted, stop, pass, stop-all, pass-all}
 use Rattle.model.proofs.Accepted.{tree-ordered, tree-numbered}
-use Rattle.checks.proofs.Verdicts.{zero-of}
+use Rattle.checks.proofs.Verdicts.{tree-first}
 use Rattle.lookup.specs.Chain.{Chain, stops, breaks, meets, isBroken, brokenAt, chainOf, chainChecks, lookupChecks}
 use Rattle.lookup.specs.Parts.{along, walkOf, Judged}
 use Rattle.lookup.specs.declared.Walk.{Walk}
@@ -65,24 +65,18 @@ chain-numbered : (t next : List ℕ) (start tag : ℕ) → numbered (chainChecks
 unfolding chainChecks numbered
 chain-numbered t next start tag = refl
 
-pub tree-accepted : (t : List ℕ) (v : Reply) → v ≡ verdict (treeChecks t) → v .number ≡ 0 → Ordered (treeOf t)
-tree-accepted t v p z = tree-ordered t (accepted (treeChecks t) (tree-numbered t) (zero-of (treeChecks t) v p z))
+pub tree-accepted : (t : List ℕ) → AcceptedTree t → Ordered (treeOf t)
+tree-accepted t ok = tree-ordered t (accepted (treeChecks t) (tree-numbered t) ok)
 
-module _ (t next : List ℕ) (start tag room : ℕ) (c : Chain) (v : Reply) (p : v ≡ verdict (treeChecks t)) where
-  pub tree-refused : (w : Walk) → w .verdict ≡ v → (v .number ≡ 0 → ⊥) → Judged (lookupChecks t next start tag room) c w
+module _ (t next : List ℕ) (start tag room : ℕ) (c : Chain) (ok : AcceptedTree t) (w : Walk) (j : Judged (chainChecks t next start tag) c w) where
+  pub chain-refused : (w .verdict .number ≡ 0 → ⊥) → Judged (lookupChecks t next start tag room) c w
   unfolding lookupChecks
-  tree-refused w q z = refusal _ c w v q (stop-all (treeChecks t) _ v p z) z
+  chain-refused y =
+      refusal _ c w (w .verdict) refl (tree-first t _ (w .verdict) (stop-all (chainChecks t next start tag) _ (w .verdict) (j .due) y) ok) y
 
-  module _ (z : v .number ≡ 0) (w : Walk) (j : Judged (chainChecks t next start tag) c w) where
-    pub chain-refused : (w .verdict .number ≡ 0 → ⊥) → Judged (lookupChecks t next start tag room) c w
-    unfolding lookupChecks
-    chain-refused y =
-        refusal _ c w (w .verdict) refl
-        (pass-all (treeChecks t) _ v (w .verdict) (stop-all (chainChecks t next start tag) _ (w .verdict) (j .due) y) p z (tree-numbered t)) y
-
-    pub room-judged : (u : Reply) → u ≡ verdict (roomChecks room (sizeOf t)) → w .verdict .number ≡ 0 → Judged (lookupChecks t next start tag room) c (record { verdict = u; nodes = w .nodes })
-    unfolding lookupChecks
-    room-judged u q y = record {
-      due = pass-all (treeChecks t) _ v u (pass-all (chainChecks t next start tag) _ (w .verdict) u q (j .due) y (chain-numbered t next start tag)) p z (tree-numbered t);
-      met = λ h. j .met y;
-    }
+  pub room-judged : (u : Reply) → u ≡ verdict (roomChecks room (sizeOf t)) → w .verdict .number ≡ 0 → Judged (lookupChecks t next start tag room) c (record { verdict = u; nodes = w .nodes })
+  unfolding lookupChecks
+  room-judged u q y = record {
+    due = tree-first t _ u (pass-all (chainChecks t next start tag) _ (w .verdict) u q (j .due) y (chain-numbered t next start tag)) ok;
+    met = λ h. j .met y;
+  }

@@ -3,7 +3,7 @@ use mathlib.Core.Path.{refl}
 use Rattle.model.specs.Sets.{any, tab, ones}
 use Rattle.model.specs.Axes.{climbs, descendant, descendantOrSelf}
 use Rattle.model.specs.Refusals.{lowest, verdict, written}
-use Rattle.model.specs.Checks.{badParent, treeChecks, roomChecks}
+use Rattle.model.specs.Checks.{badParent, treeChecksAt, roomChecks}
 use Rattle.model.specs.Warehouse.{warehouse, among, setOf}
 use Rattle.index.specs.Index.{hasFrom, firstFrom}
 use Rattle.index.specs.Worked.{warehouseIndex}
@@ -12,5 +12,5 @@ use Rattle.lookup.specs.Worked.{Correct, AllCorrect, damaged, calls}
 
 -- every call leaves what the list tells
 pub calls-correct : AllCorrect calls
-unfolding AllCorrect Correct calls damaged warehouse warehouseIndex setOf among written verdict lookupChecks chainChecks treeChecks roomChecks badParent metBytes isMet isBroken brokenAt chainOf chainFrom wrong firstFrom hasFrom lowest descendantOrSelf descendant climbs ones tab any
+unfolding AllCorrect Correct calls damaged warehouse warehouseIndex setOf among written verdict lookupChecks chainChecks treeChecksAt roomChecks badParent metBytes isMet isBroken brokenAt chainOf chainFrom wrong firstFrom hasFrom lowest descendantOrSelf descendant climbs ones tab any
 calls-correct = ((refl, refl), ((refl, refl), ((refl, refl), ((refl, refl), ((refl, refl), ((refl, refl), ((refl, refl), ((refl, refl), ((refl, refl), ((refl, refl), ((refl, refl), ((refl, refl), ((refl, refl), ((refl, refl), tt))))))))))))))

@@ -84,10 +84,16 @@ lookupChecks t next start tag room = treeChecks t ++ (chainChecks t next start t
 abbrev pub lookupVerdict : List ℕ → List ℕ → ℕ → ℕ → List ℕ → Reply
 lookupVerdict t next start tag to = verdict (lookupChecks t next start tag (length to))
 
--- a reply, and a buffer as it was left, are those of the call: the verdict, how many nodes the chain met, 0 at a refusal, and their
--- set
+-- the reply of the call: the verdict, and how many nodes the chain met, 0 at a refusal
+abbrev pub lookupReply : List ℕ → List ℕ → ℕ → ℕ → List ℕ → ImageReply
+lookupReply t next start tag to =
+    counting (lookupVerdict t next start tag to)
+    (cond (eqb (lookupVerdict t next start tag to .number) 0) (ones (metBytes t next start tag)) 0)
+
+-- the buffer after it: their set
+abbrev pub lookupBuffer : List ℕ → List ℕ → ℕ → ℕ → List ℕ → List ℕ
+lookupBuffer t next start tag to = written (lookupVerdict t next start tag to) (metBytes t next start tag) to
+
+-- a reply, and a buffer as it was left, are those of the call
 abbrev pub LookupLeaves : List ℕ → List ℕ → ℕ → ℕ → List ℕ → ImageReply → List ℕ → Type 0
-LookupLeaves t next start tag to r after =
-    (r ≡ counting (lookupVerdict t next start tag to)
-    (cond (eqb (lookupVerdict t next start tag to .number) 0) (ones (metBytes t next start tag)) 0))
-    × (after ≡ written (lookupVerdict t next start tag to) (metBytes t next start tag) to)
+LookupLeaves t next start tag to r after = (r ≡ lookupReply t next start tag to) × (after ≡ lookupBuffer t next start tag to)

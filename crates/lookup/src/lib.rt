@@ -1,12 +1,12 @@
-// The service that finds the descendants of a node that have a tag by following an index. It has no precondition: what is malformed
-// is refused, the index as far as the chain reads it, and then the buffer is left as it was.
+// The descendants of a node of an accepted tree that have a tag, found by following an index. All else that is malformed is refused, the
+// index as far as the chain reads it, and then the buffer is left as it was.
 ghost use mathlib.Core.Path.{_≡_};
 ghost use Prim.Native.Nat.{_<_, suc};
 ghost use lib.ListN.{length};
 ghost use Rattle.model.specs.Tree.{treeOf, sizeOf};
 ghost use Rattle.model.specs.Axes.{following};
 ghost use Rattle.model.specs.Refusals.{lowest};
-ghost use Rattle.model.specs.Accepted.{Sound, Ordered};
+ghost use Rattle.model.specs.Accepted.{AcceptedTree, Sound, Ordered};
 ghost use Rattle.index.specs.Index.{firstFrom};
 ghost use Rattle.lookup.specs.Chain.{wrong, chainOf, chainChecks, lookupChecks, LookupLeaves};
 ghost use Rattle.lookup.specs.Parts.{walkOf, Judged};
@@ -129,8 +129,9 @@ fn check_chain(tree: &[u16], next: &[u16], start: usize, tag: u16) -> Walk
     follow(tree, next, start, tag)
 }
 
-// The checks 5 to 7, 36, 27 and 20, for a buffer of so many bytes, and the walk.
+// The checks 36, 27 and 20, for a buffer of so many bytes, and the walk. The tree has passed 5 to 7.
 fn check(tree: &[u16], next: &[u16], start: usize, tag: u16, room: usize) -> Walk
+    requires { ⌜ AcceptedTree (now tree) ⌝ }
     ensures { λ r.
         ⌜
         Judged (lookupChecks (now (tree .entry)) (now (next .entry)) start tag room)
@@ -138,10 +139,6 @@ fn check(tree: &[u16], next: &[u16], start: usize, tag: u16, room: usize) -> Wal
         r
         ⌝ }
 {
-    let t = tree::check_tree(tree);
-    if t.number != 0 {
-        return refused(t);
-    }
     let walk = check_chain(tree, next, start, tag);
     let v = walk.verdict;
     if v.number != 0 {
@@ -155,7 +152,7 @@ fn check(tree: &[u16], next: &[u16], start: usize, tag: u16, room: usize) -> Wal
     }
 }
 
-// The descendants of a node that have a tag, by the index that is lent, and how many they are. Beside the checks of the tree, a scan
+// The descendants of a node that have a tag, by the index that is lent, and how many they are. Beside a scan
 // of the subtree and one up to the first node with the tag, it visits the nodes that it answers, and reads one number of the index
 // for each.
 pub fn descendants(
@@ -165,6 +162,7 @@ pub fn descendants(
     tag: u16,
     to: &mut [u8],
 ) -> model::ImageReply
+    requires { ⌜ AcceptedTree (now tree) ⌝ }
     ensures { λ r.
         ⌜
         LookupLeaves (now (tree .entry)) (now (next .entry)) start tag (now (to .entry))

@@ -1,9 +1,9 @@
 -- What accepted tables give the engine.
-use Prim.Native.Nat.{ℕ, zero, suc, _+_, _-_, _/_, _%_, _≤_, _<_}
-use native.Mathlib.Nat.{not-suc-le-zero, eq-or-lt-of-le}
+use Prim.Native.Nat.{ℕ, zero, suc, _+_, _-_, _*_, _/_, _%_, _≤_, _<_}
+use native.Mathlib.Nat.{not-suc-le-zero, eq-or-lt-of-le, add-zero, mul-zero, mul-comm, div-le-of-le-mul, div-add-mod}
 use native.Mathlib.Numerals.{sub-one}
 use native.Mathlib.Omega.{arith}
-use mathlib.Core.Path.{_≡_, refl, ap}
+use mathlib.Core.Path.{_≡_, refl, sym, ap, _∙_}
 use mathlib.Core.Logic.{⊎-elim}
 use mathlib.Core.Bool.{Bool, true, false, not, _&&_, _||_, and-true}
 use mathlib.Core.List.{List}
@@ -11,11 +11,11 @@ use lib.ListN.{length, getD}
 use lib.Dec.{ltb, eqb, eqb·suc-zero}
 use borrow.Author.Tests.{lt-ltb, ltb-true, ltb-false, eqb-true, eqb-false, not-false, ne-eqb, eq-eqb}
 use Rattle.model.specs.Sets.{any, bit}
-use Rattle.model.specs.Tree.{Tree, treeOf, sizeOf}
+use Rattle.model.specs.Tree.{Tree, treeAt, treeOf, sizeOf}
 use Rattle.model.specs.Axes.{self, ancestor, descendant, following, preceding, isDocument, descendantOrSelf}
 use Rattle.model.specs.QueryTable.{entriesOf, kind, left, right, tag, entry, lastOf}
 use Rattle.model.specs.Refusals.{verdict}
-use Rattle.model.specs.Checks.{badParent, badTag, treeChecks, leftPath, leftExpr, rightPath, rightExpr, namesVariable, hasLeft, hasRight, badStep, badVariable, badUnnamed, badEntry, queryChecks}
+use Rattle.model.specs.Checks.{badParent, badTag, treeChecksAt, treeChecks, leftPath, leftExpr, rightPath, rightExpr, namesVariable, hasLeft, hasRight, badStep, badVariable, badUnnamed, badEntry, queryChecks}
 use Rattle.model.specs.Accepted.{Falling, Sound, Ordered, Shaped, Evaluable}
 use Rattle.model.proofs.Booleans.{Seen, seen, no-yes, both-yes, or-left, or-right, or-cases, not-yes, no-or, guarded}
 use Rattle.model.proofs.Booleans.Seen.{yes!, no! }
@@ -79,12 +79,23 @@ tag-below d x h = go (seen (isDocument d x))
     go (yes! p) = omega (arith, eqb-true (d .tag x) 65534 p)
     go (no! p) = omega (arith, ltb-false 65533 (d .tag x) (rw (p, or-right (ltb 0 x) true refl, and-true (ltb 65533 (d .tag x))) at h))
 
--- an accepted tree is in document order
+-- an accepted tree is in document order, however many numbers a node has
+
+size-some : (k l : ℕ) → (l ≡ 0 → ⊥) → l % k ≡ 0 → 0 < l / k
+size-some k l z m = go (l / k) refl
+  where
+    go : (q : ℕ) → l / k ≡ q → 0 < l / k
+    go zero e = absurd (z (sym (div-add-mod l k) ∙ rw (e, m) (add-zero (k * 0) ∙ mul-zero k)))
+    go (suc q) e = rw e (omega arith)
+
+pub at-ordered : (k : ℕ) (t : List ℕ) → Passes (treeChecksAt k t) → Ordered (treeAt k t)
+unfolding treeChecksAt Passes
+at-ordered k t w =
+    let (some, whole, most) = length-fits k (256 * k) (length t) (w .0) in
+    ordered-of (treeAt k t) (size-some k (length t) some whole) (div-le-of-le-mul k (let a : length t ≤ k * 256 = rw (mul-comm k 256) most in a)) (w .1 .0) (w .1 .1 .0)
+
 pub tree-ordered : (t : List ℕ) → Passes (treeChecks t) → Ordered (treeOf t)
-unfolding treeChecks Passes
-tree-ordered t w =
-    let (some, even, most) = length-fits 2 512 (length t) (w .0) in
-    ordered-of (treeOf t) (let a : 0 < length t / 2 = omega arith in a) (let b : length t / 2 ≤ 256 = omega arith in b) (w .1 .0) (w .1 .1 .0)
+tree-ordered t w = at-ordered 2 t w
 
 -- queries
 
@@ -186,7 +197,7 @@ module _ (q : List ℕ) (least columns : ℕ) (b : Passes (queryChecks q least c
 -- the checks of a tree and a query have no number 0
 
 pub tree-numbered : (t : List ℕ) → numbered (treeChecks t) ≡ true
-unfolding treeChecks numbered
+unfolding treeChecksAt numbered
 tree-numbered t = refl
 
 pub query-numbered : (q : List ℕ) (least columns : ℕ) → numbered (queryChecks q least columns) ≡ true

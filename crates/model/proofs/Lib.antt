@@ -2,6 +2,7 @@ pub mod Booleans
 pub mod Lists
 pub mod Exists
 pub mod Bytes
+pub mod Copying
 pub mod Counts
 pub mod Refusals
 pub mod Axes
@@ -10,6 +11,7 @@ pub mod QueryTable
 pub mod Shaped
 pub mod Encoding
 pub mod Accepted
+pub mod Parties
 pub mod Sharing
 pub mod Exactness
 pub mod Rule

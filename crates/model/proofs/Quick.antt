@@ -15,7 +15,7 @@ use Rattle.model.specs.QueryTable.{entriesOf}
 use Rattle.model.specs.Answers.{Row, answers}
 use Rattle.model.specs.Refusals.{Check, lowest, refuseAt, reply, verdict}
 use Rattle.model.specs.Sharing.{breaks, sharingChecks}
-use Rattle.model.specs.Checks.{treeChecks, queryChecks, cursorChecks, roomChecks, pageChecks, quickChecks}
+use Rattle.model.specs.Checks.{treeChecksAt, treeChecks, queryChecks, cursorChecks, roomChecks, pageChecks, quickChecks}
 use Rattle.model.specs.Services.{judged, pageOutcome, quickOutcome}
 use Rattle.model.proofs.Booleans.{Seen, seen, no-yes, yes-left, yes-right}
 use Rattle.model.proofs.Booleans.Seen.{yes!, no! }
@@ -63,12 +63,12 @@ judged-number v k rows c buffer = go (seen (eqb (v .number) 0))
 
 module _ (t q : List ℕ) (columns : ℕ) (c : Cursor) (room : ℕ) where
   page-under : verdict (pageChecks t q columns c room) .number < 29
-  page-under = verdict-under 29 (omega arith) (pageChecks t q columns c room) (unfold under pageChecks treeChecks queryChecks cursorChecks roomChecks in refl)
+  page-under = verdict-under 29 (omega arith) (pageChecks t q columns c room) (unfold under pageChecks treeChecksAt queryChecks cursorChecks roomChecks in refl)
 
   -- the verdict is that of a page, or the refusal 29
   verdicts : (verdict (quickChecks t q columns c room) ≡ verdict (pageChecks t q columns c room))
       ⊎ ((any (entriesOf q) (breaks q) ≡ true) × (verdict (quickChecks t q columns c room) ≡ reply 29 (lowest (entriesOf q) (breaks q))))
-  unfolding quickChecks pageChecks sharingChecks treeChecks queryChecks
+  unfolding quickChecks pageChecks sharingChecks treeChecksAt queryChecks
   verdicts = inserted (refuseAt 29 (entriesOf q) (breaks q)) (cursorChecks t columns c ++ roomChecks room columns) (treeChecks t ++ queryChecks q 1 columns)
 
   -- what a quick page accepts, a page accepts

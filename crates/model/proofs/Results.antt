@@ -19,7 +19,7 @@ use Rattle.model.specs.QueryTable.{pathAt, lastOf}
 use Rattle.model.specs.Results.{assigned, related, imageBytes, cell, pairsBytes}
 use Rattle.model.specs.Pages.{unpaged}
 use Rattle.model.specs.Refusals.{verdict, written}
-use Rattle.model.specs.Checks.{treeChecks, queryChecks, nodeChecks, badByte, setChecks, roomChecks, tableChecks, imageChecks, pairsChecks, pageChecks}
+use Rattle.model.specs.Checks.{treeChecksAt, queryChecks, nodeChecks, badByte, setChecks, roomChecks, tableChecks, imageChecks, pairsChecks, pageChecks}
 use Rattle.model.specs.Services.{imageVerdict, imageReply, imageBuffer, pairsReply, pairsBuffer, pageOutcome}
 use Rattle.model.proofs.Booleans.{Seen, yes!, no!, seen, no-yes, both-yes, yes-right}
 use Rattle.model.proofs.Exists.{any-both, none-of}
@@ -81,7 +81,7 @@ module _ (n : ℕ) (R : ℕ → ℕ → Bool) (s : List ℕ) (low : (x : ℕ) �
 
 module _ (t q : List ℕ) (columns : ℕ) (nodes from to : List ℕ) (ok : imageVerdict t q columns nodes from to .number ≡ 0) where
   fitting : Passes (setChecks t from ++ roomChecks (length to) (sizeOf t))
-  unfolding imageChecks tableChecks treeChecks queryChecks nodeChecks setChecks roomChecks numbered
+  unfolding imageChecks tableChecks treeChecksAt queryChecks nodeChecks setChecks roomChecks numbered
   fitting =
       accepted (setChecks t from ++ roomChecks (length to) (sizeOf t)) refl
       (Passes-front (tableChecks t q columns nodes) (setChecks t from ++ roomChecks (length to) (sizeOf t)) refl ok .1)
@@ -177,7 +177,7 @@ module _ (t q : List ℕ) (columns : ℕ) (nodes table : List ℕ) (ok : pairsRe
   -- the bytes from n * n on are as they were lent, and the buffer is as long as it was
   pub pairs-rest : (drop (sizeOf t * sizeOf t) (pairsBuffer t q columns nodes table) ≡ drop (sizeOf t * sizeOf t) table)
       × (length (pairsBuffer t q columns nodes table) ≡ length table)
-  unfolding pairsBytes pairsChecks tableChecks treeChecks queryChecks nodeChecks roomChecks numbered Passes
+  unfolding pairsBytes pairsChecks tableChecks treeChecksAt queryChecks nodeChecks roomChecks numbered Passes
   pairs-rest =
       let w = accepted (roomChecks (length table) (sizeOf t * sizeOf t)) refl (Passes-front (tableChecks t q columns nodes) (roomChecks (length table) (sizeOf t * sizeOf t)) refl ok .1) in
       rest-kept (pairsReply t q columns nodes table) (sizeOf t * sizeOf t) (cell (sizeOf t) (related t q nodes (lastOf q) false)) table ok

@@ -18,7 +18,7 @@ use Rattle.model.specs.QueryTable.{Parsed, ofExpr, kind, left, tag, entr
 use Rattle.model.specs.Results.{assigned, related, imageBytes, pairsBytes}
 use Rattle.model.specs.Answers.{satisfied, answers}
 use Rattle.model.specs.Refusals.{refuseAt}
-use Rattle.model.specs.Checks.{badTag, badField, badEntry, treeChecks, queryChecks, tableChecks, imageChecks, pairsChecks, pageChecks}
+use Rattle.model.specs.Checks.{badTag, badField, badEntry, treeChecksAt, treeChecks, queryChecks, tableChecks, imageChecks, pairsChecks, pageChecks}
 use Rattle.model.specs.Services.{pageOutcome}
 use Rattle.model.specs.Encoding.{Term, pathTerm, exprTerm, size, tableOf, columns, columnsOf}
 use Rattle.model.specs.Before.{passesBefore, stepsBefore, badTagBefore, badFieldBefore, instead, inputsOf, inputsBefore, repliesOf, repliesOver, NoDocument, NoNodeTest}
@@ -221,7 +221,7 @@ published t q = refl
 
 module _ (t q : List ℕ) (h : NoDocument (treeOf t)) where
   tree-same : instead (refuseAt 7 (sizeOf t) (badTagBefore (treeOf t))) (treeChecks t) ≡ treeChecks t
-  unfolding treeChecks instead
+  unfolding treeChecksAt instead
   tree-same = rw (tags-same (treeOf t) h) refl
 
   module _ (k : NoNodeTest q) where

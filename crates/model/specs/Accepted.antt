@@ -7,7 +7,12 @@ use lib.ListN.{length, getD}
 use Rattle.model.specs.Tree.{Tree, sizeOf}
 use Rattle.model.specs.Axes.{isDocument, descendantOrSelf}
 use Rattle.model.specs.QueryTable.{entriesOf, kind, left, right}
-use Rattle.model.specs.Checks.{leftPath, leftExpr, rightPath, rightExpr, namesVariable}
+use Rattle.model.specs.Refusals.{verdict}
+use Rattle.model.specs.Checks.{treeChecks, leftPath, leftExpr, rightPath, rightExpr, namesVariable}
+
+-- a tree table that its checks accept: what the services ask for that run on the tree that a party sees
+abbrev pub AcceptedTree : List ℕ → Type 0
+AcceptedTree t = verdict (treeChecks t) .number ≡ 0
 
 -- each of these numbers is below n: a row or an assignment of nodes of a tree of n nodes
 abbrev pub Below : ℕ → List ℕ → Type 0

@@ -1,6 +1,6 @@
 -- The refusals 5 to 20 of document 01, and the place of 29 among them, in checking order. Each check runs over its whole object before
 -- the next begins.
-use Prim.Native.Nat.{ℕ, zero, suc, _+_, _-_, _*_, _%_}
+use Prim.Native.Nat.{ℕ, zero, suc, _+_, _-_, _*_, _/_, _%_}
 use mathlib.Core.Bool.{Bool, not, _&&_, _||_, cond}
 use mathlib.Core.List.{List, [], _∷_, _++_}
 use lib.ListN.{length, getD}
@@ -8,7 +8,7 @@ use lib.Dec.{ltb, eqb}
 use Rattle.model.specs.declared.Entry.{Entry}
 use Rattle.model.specs.declared.Cursor.{Cursor}
 use Rattle.model.specs.Sets.{bit}
-use Rattle.model.specs.Tree.{Tree, sizeOf, treeOf}
+use Rattle.model.specs.Tree.{Tree, sizeOf, treeAt}
 use Rattle.model.specs.Axes.{isDocument, descendantOrSelf}
 use Rattle.model.specs.QueryTable.{entriesOf, kind, left, right, entry, lastOf}
 use Rattle.model.specs.Pages.{rowOf, hasBegun}
@@ -17,9 +17,9 @@ use Rattle.model.specs.Sharing.{sharingChecks}
 
 -- The tree table.
 
--- 5: empty, of odd length, or longer than 512 numbers
-abbrev pub badTreeLength : ℕ → Bool
-badTreeLength l = eqb l 0 || (not (eqb (l % 2) 0) || ltb 512 l)
+-- 5, of k numbers a node: empty, no multiple of k, or more than 256 nodes
+abbrev pub badTreeLength : ℕ → ℕ → Bool
+badTreeLength k l = eqb l 0 || (not (eqb (l % k) 0) || ltb (256 * k) l)
 
 -- 6: node 0's parent is not 65535; a later node's is neither the node before it nor an ancestor of that node
 unfoldable pub badParent : Tree → ℕ → Bool
@@ -29,13 +29,17 @@ badParent t x = cond (eqb x 0) (not (eqb (t .parent x) 65535)) (not (descendantO
 abbrev pub badTag : Tree → ℕ → Bool
 badTag t x = ltb 65533 (t .tag x) && (ltb 0 x || not (isDocument t x))
 
--- 5 to 7
-unfoldable pub treeChecks : List ℕ → List Check
-treeChecks t =
-    refuse 5 (badTreeLength (length t))
-    ∷ refuseAt 6 (sizeOf t) (badParent (treeOf t))
-    ∷ refuseAt 7 (sizeOf t) (badTag (treeOf t))
+-- 5 to 7 of a table of k numbers a node
+unfoldable pub treeChecksAt : ℕ → List ℕ → List Check
+treeChecksAt k t =
+    refuse 5 (badTreeLength k (length t))
+    ∷ refuseAt 6 (length t / k) (badParent (treeAt k t))
+    ∷ refuseAt 7 (length t / k) (badTag (treeAt k t))
     ∷ []
+
+-- of a table of two numbers a node
+abbrev pub treeChecks : List ℕ → List Check
+treeChecks t = treeChecksAt 2 t
 
 -- The query table.
 

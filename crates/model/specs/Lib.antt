@@ -11,6 +11,7 @@ pub mod Pages
 pub mod Refusals
 pub mod Sharing
 pub mod Checks
+pub mod Parties
 pub mod Encoding
 pub mod Services
 pub mod Before

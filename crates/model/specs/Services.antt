@@ -16,6 +16,7 @@ use Rattle.model.specs.Answers.{Row, answers}
 use Rattle.model.specs.Pages.{Outcome, paged, unpaged}
 use Rattle.model.specs.Refusals.{counting, verdict, written}
 use Rattle.model.specs.Checks.{imageChecks, pairsChecks, pageChecks, quickChecks}
+use Rattle.model.specs.Parties.{overSeen}
 
 -- the verdict of forwards and of backwards: on a tree, a query, its number of variables and their nodes, a set, and the buffer
 abbrev pub imageVerdict : List ℕ → List ℕ → ℕ → List ℕ → List ℕ → List ℕ → Reply
@@ -71,3 +72,28 @@ pageReply o = record { number = o .number; place = o .place; count = o .count; m
 -- a reply, and a cursor and a buffer as they were left, are those of the outcome
 abbrev pub PageLeaves : Outcome → PageReply → Cursor → List ℕ → Type 0
 PageLeaves o r c buffer = (r ≡ pageReply o) × (c ≡ o .cursor) × (buffer ≡ o .buffer)
+
+-- Over a shared table (document 02, §8): a party's replies are those for the tree that it sees.
+
+-- what a call with one buffer leaves: a reply, and the buffer as it was left
+abbrev pub Leaves : {R : Type 0} → R × List ℕ → R → List ℕ → Type 0
+Leaves o r after = (r ≡ o .0) × (after ≡ o .1)
+
+-- forwards, or backwards where back is set
+unfoldable pub seenImage : List ℕ → ℕ → List ℕ → ℕ → List ℕ → Bool → List ℕ → List ℕ → ImageReply × List ℕ
+seenImage t party q columns nodes back from to =
+    overSeen t party (λ v. (counting v 0, to))
+    (λ u. (imageReply u q columns nodes back from to, imageBuffer u q columns nodes back from to))
+
+-- pairs
+unfoldable pub seenPairs : List ℕ → ℕ → List ℕ → ℕ → List ℕ → List ℕ → Reply × List ℕ
+seenPairs t party q columns nodes table =
+    overSeen t party (λ v. (v, table)) (λ u. (pairsReply u q columns nodes table, pairsBuffer u q columns nodes table))
+
+-- a page
+unfoldable pub seenPage : List ℕ → ℕ → List ℕ → ℕ → Cursor → List ℕ → Outcome
+seenPage t party q columns c buffer = overSeen t party (λ v. unpaged v c buffer) (λ u. pageOutcome u q columns c buffer)
+
+-- a quick page
+unfoldable pub seenQuick : List ℕ → ℕ → List ℕ → ℕ → Cursor → List ℕ → Outcome
+seenQuick t party q columns c buffer = overSeen t party (λ v. unpaged v c buffer) (λ u. quickOutcome u q columns c buffer)

@@ -13,6 +13,10 @@ pub record Tree : Type 0 where
 abbrev pub sizeOf : List ℕ → ℕ
 sizeOf t = length t / 2
 
--- the tree of a table: two numbers a node, parent and tag
+-- the tree of a table of k numbers a node, of which the first two are parent and tag
+abbrev pub treeAt : ℕ → List ℕ → Tree
+treeAt k t = record { size = length t / k; parent = λ x. getD t (k * x) 0; tag = λ x. getD t (k * x + 1) 0 }
+
+-- the tree of a table of two numbers a node
 abbrev pub treeOf : List ℕ → Tree
-treeOf t = record { size = sizeOf t; parent = λ x. getD t (2 * x) 0; tag = λ x. getD t (2 * x + 1) 0 }
+treeOf t = treeAt 2 t

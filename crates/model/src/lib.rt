@@ -1,6 +1,8 @@
 // The types that every layer shares. What a reader must believe of the engine is in specs/.
 ghost use mathlib.Core.Path.{_≡_};
-ghost use Prim.Native.Nat.{_<_};
+ghost use mathlib.Core.List.{_++_};
+ghost use Prim.Native.Nat.{_≤_, _<_};
+ghost use lib.ListN.{length, take, drop};
 ghost use Rattle.model.specs.Refusals.{reply, counting};
 
 // The reply to a call: 0 and 0, or the number and the place of a refusal.
@@ -14,6 +16,14 @@ pub struct Reply {
 // 0 of a refused call.
 #[repr(C)]
 pub struct ImageReply {
+    pub number: u16,
+    pub place: u16,
+    pub count: usize,
+}
+
+// The reply to the making of a table: number and place, and how many numbers the table has; 0 of a refused call.
+#[repr(C)]
+pub struct MadeReply {
     pub number: u16,
     pub place: u16,
     pub count: usize,
@@ -86,7 +96,7 @@ pub fn reply_at(number: u16, place: usize) -> Reply
     }
 }
 
-// A verdict as such a reply, with a number of nodes.
+// A verdict as a reply with a number of nodes.
 pub fn image_reply(v: Reply, count: usize) -> ImageReply
     ensures { λ r. ⌜ r ≡ counting v count ⌝ }
 {
@@ -94,5 +104,17 @@ pub fn image_reply(v: Reply, count: usize) -> ImageReply
         number: v.number,
         place: v.place,
         count: count,
+    }
+}
+
+// The first numbers of a table over the front of a buffer.
+pub fn copy(table: &[u16], count: usize, to: &mut [u16])
+    requires { ⌜ (count ≤ length (now table)) × (count ≤ length (now to)) ⌝ }
+    ensures { λ _. ⌜ now (to .exit) ≡ take count (now (table .entry)) ++ drop count (now (to .entry)) ⌝ }
+{
+    let mut i = 0;
+    while i < count {
+        to[i] = table[i];
+        i += 1;
     }
 }

@@ -14,6 +14,7 @@ use Rattle.model.specs.Tree.{sizeOf}
 use Rattle.model.specs.Answers.{Row, answers}
 use Rattle.model.specs.Pages.{rowOf, hasBegun, after, moved, some}
 use Rattle.model.specs.Accepted.{Below}
+use Rattle.model.specs.Parties.{overSeen}
 use Rattle.model.specs.Refusals.{reply}
 use Rattle.model.proofs.Booleans.{Seen, yes!, no!, seen, no-yes}
 use Rattle.model.proofs.Answers.{In, Wide, Rising, answers-rising, answers-wide, answers-member}
@@ -21,10 +22,10 @@ use Rattle.answers.proofs.Paging.{in-at, in-take, in-drop, moved-row, drop-same
 use Rattle.lines.specs.Lines.{rowLine, endLine, refusedLine}
 use Rattle.output.specs.declared.Position.{Position}
 use Rattle.output.specs.declared.Piece.{Piece}
-use Rattle.output.specs.Output.{treeIn, queryIn, columnsIn, jobVerdict, answersIn, linesOf, outputOf}
-use Rattle.output.specs.Piece.{beginning, smallest, numbersFor, PieceOutcome, tooShort, endPiece, rowsPiece, tablesPiece, listPiece, pieceOutcome, PieceLeaves}
+use Rattle.output.specs.Output.{sharedIn, partyIn, treeIn, queryIn, columnsIn, jobVerdict, answersIn, linesOf, outputOf}
+use Rattle.output.specs.Piece.{beginning, smallest, numbersFor, PieceOutcome, tooShort, endPiece, rowsPiece, tablesPiece, sharedPiece, jobPiece, listPiece, pieceOutcome, PieceLeaves}
 use Rattle.output.specs.Calls.{Call, Chain, joined, roomy, Unfinished, Printed, Pieces}
-use Rattle.output.proofs.Verdict.{file-passes, accepted-reply, most, least, few, page-passes, refused-list}
+use Rattle.output.proofs.Verdict.{file-passes, table-passes, accepted-reply, most, least, few, page-passes, refused-list}
 
 -- lines of rows
 
@@ -129,11 +130,12 @@ module _ (file : List ℕ) where
     some-room = row-room room k h most′ (least file (s .accepted))
 
     rows-are : listPiece file at room ≡ rowsPiece at rows (some (drop r (drop m A)))
-    unfolding listPiece tablesPiece answersIn
+    unfolding listPiece jobPiece sharedPiece overSeen tablesPiece answersIn treeIn sharedIn partyIn queryIn columnsIn
     rows-are =
         rw (
           eq-eqb 0 0 refl,
           file-passes file (s .accepted),
+          table-passes file (s .accepted),
           page-passes file (s .accepted) (at .cursor) (numbersFor room) (s .nodes) (some-room .0),
           s .next,
         )

@@ -2,7 +2,7 @@
 use Prim.Native.Nat.{ℕ, _+_, _*_, _/_, _%_, _^_, _≤_}
 use native.Mathlib.Nat.{zero-add, mul-le-mul-right, div-mul-le-self}
 use native.Mathlib.Omega.{arith}
-use mathlib.Core.Path.{_≡_, refl, sym, ap, _∙_}
+use mathlib.Core.Path.{_≡_, refl, sym, ap, _∙_, subst}
 use mathlib.Core.Bool.{Bool, true, false, not, cond}
 use mathlib.Core.List.{List, _++_}
 use lib.Dec.{ltb, eqb}
@@ -15,20 +15,23 @@ use Rattle.model.specs.Answers.{Row, answers}
 use Rattle.model.specs.Pages.{after, flat, some, paged}
 use Rattle.model.specs.Refusals.{verdict}
 use Rattle.model.specs.Checks.{pageChecks}
+use Rattle.model.specs.Parties.{sharedVerdict, seenTable}
 use Rattle.model.specs.Services.{pageOutcome, PageLeaves}
 use Rattle.model.proofs.Answers.{Wide, answers-wide}
+use Rattle.model.proofs.Parties.{over-refused, over-accepted}
 use Rattle.model.proofs.Booleans.{Seen, yes!, no!, seen, no-yes}
 use Rattle.answers.specs.declared.Paged.{Paged}
 use Rattle.answers.proofs.Paging.{in-after, in-take}
+use Rattle.job.specs.declared.Span.{Span}
 use Rattle.job.specs.declared.Job.{Job}
-use Rattle.job.specs.JobFile.{numbers, fileChecks, jobOf}
+use Rattle.job.specs.JobFile.{numbers, fileChecks, jobOf, widened, Fronts}
 use Rattle.job.proofs.Files.{length-numbers}
 use Rattle.lines.specs.Lines.{rowLines, put, Wrote}
 use Rattle.lines.proofs.Worked.{lines-of-rows}
 use Rattle.output.specs.declared.Position.{Position}
 use Rattle.output.specs.declared.Piece.{Piece}
-use Rattle.output.specs.Output.{treeIn, queryIn, columnsIn, linesOf}
-use Rattle.output.specs.Piece.{PieceOutcome, numbersFor, endPiece, rowsPiece, refusedPiece, afterPage, tablesPiece, listPiece, pieceOutcome, PieceLeaves}
+use Rattle.output.specs.Output.{sharedOf, linesOf}
+use Rattle.output.specs.Piece.{PieceOutcome, numbersFor, endPiece, rowsPiece, refusedPiece, afterPage, tablesPiece, sharedPiece, jobPiece, listPiece, pieceOutcome, PieceLeaves}
 
 -- a line or lines that were written over a buffer's front are a piece
 pub piece-of : (o : PieceOutcome) (before after : List ℕ) (n : ℕ) (r : Reply) (next : Position) → Wrote (o .bytes) 0 before after n → r ≡ o .reply → next ≡ o .next
@@ -43,15 +46,44 @@ pub after-is : (at : Position) (page : Paged) (total : ℕ) → total ≡ (at .t
     → _≡_ {A = Position} (record { cursor = page .cursor; total = total; listed = not (page .reply .more) }) (afterPage at page)
 after-is at page total e = λ i. record { cursor = page .cursor; total = e i; listed = not (page .reply .more) }
 
--- the tables of a file, decoded over the front of larger buffers
-module _ (file before : List ℕ) (k : ℕ) (at : Position) (room : ℕ) (r : Piece) (out : List ℕ) where
-  decoded : (from n : ℕ) (l rest : List ℕ) → l ≡ numbers file from n ++ rest → take n l ≡ numbers file from n
-  decoded from n l rest e = ap (λ (z : List ℕ). take n z) e ∙ take-at (numbers file from n) rest n (length-numbers file from n)
+-- a piece over the tree that a party sees, and a refused one
 
-  pub parts-are : (a m b n : ℕ) (t q s u : List ℕ) → PieceLeaves (tablesPiece (take m t) (take n q) k at room) before r out
-      → t ≡ numbers file a m ++ s → q ≡ numbers file b n ++ u
-      → PieceLeaves (tablesPiece (numbers file a m) (numbers file b n) k at room) before r out
-  parts-are a m b n t q s u h e f = rw (decoded a m t s e, decoded b n q u f) at h
+module _ (t q : List ℕ) (party k : ℕ) (at : Position) (room : ℕ) (v : Reply) (p : v ≡ sharedVerdict t party) (before : List ℕ) (r : Piece) (out : List ℕ) where
+  pub shared-refused : (v .number ≡ 0 → ⊥) → PieceLeaves (refusedPiece v at) before r out → PieceLeaves (sharedPiece t party q k at room) before r out
+  unfolding sharedPiece
+  shared-refused z h =
+      subst (λ (o : PieceOutcome). PieceLeaves o before r out) (over-refused t party (λ v. refusedPiece v at) (λ u. tablesPiece u q k at room) v p z) h
+
+  pub shared-rows : (u : List ℕ) → v .number ≡ 0 → u ≡ seenTable t party → PieceLeaves (tablesPiece u q k at room) before r out
+      → PieceLeaves (sharedPiece t party q k at room) before r out
+  unfolding sharedPiece
+  shared-rows u z e h =
+      subst (λ (o : PieceOutcome). PieceLeaves o before r out) (over-accepted t party (λ v. refusedPiece v at) (λ u. tablesPiece u q k at room) v p u e z) h
+
+-- the tables of a file, decoded over the front of larger buffers
+
+decoded : (file : List ℕ) (from n : ℕ) (l rest : List ℕ) → l ≡ numbers file from n ++ rest → take n l ≡ numbers file from n
+decoded file from n l rest e = ap (λ (z : List ℕ). take n z) e ∙ take-at (numbers file from n) rest n (length-numbers file from n)
+
+module _ (file : List ℕ) (tree : Span) (out : List ℕ) where
+  pub table-owned : (rest : List ℕ) (b : Bool) → out ≡ numbers file (tree .start) (tree .count) ++ rest → length out ≡ 3072 → b ≡ true → Fronts (sharedOf file tree b) (tree .count) out
+  unfolding sharedOf
+  table-owned rest b e l h =
+      rw h (record { long = sym (length-numbers file (tree .start) (tree .count)); size = l; front = decoded file (tree .start) (tree .count) out rest e })
+
+  pub table-widened : (t rest : List ℕ) (b : Bool) (n : ℕ) → Fronts (widened (take (tree .count) t)) n out → t ≡ numbers file (tree .start) (tree .count) ++ rest → b ≡ false
+      → Fronts (sharedOf file tree b) n out
+  unfolding sharedOf
+  table-widened t rest b n h e f = rw (f, ← decoded file (tree .start) (tree .count) t rest e) h
+
+pub front-within : {t : List ℕ} {count : ℕ} {buffer : List ℕ} → Fronts t count buffer → count ≤ length buffer
+front-within {t} {count} {buffer} f = omega (arith, f .long, ap length (f .front), length-take count buffer)
+
+pub parts-are : (file before : List ℕ) (j : Job) (at : Position) (room : ℕ) (r : Piece) (out t q rest : List ℕ) (count k : ℕ)
+    → Fronts (sharedOf file (j .tree) (j .owners)) count t → q ≡ numbers file (j .query .start) (j .query .count) ++ rest → k ≡ j .columns
+    → PieceLeaves (sharedPiece (take count t) (j .party) (take (j .query .count) q) k at room) before r out → PieceLeaves (jobPiece file j at room) before r out
+unfolding jobPiece
+parts-are file before j at room r out t q rest count k f e d h = rw (f .front, decoded file (j .query .start) (j .query .count) q rest e, d) at h
 
 -- a file that is opened
 module _ (file : List ℕ) (j : Job) (e : j ≡ jobOf file) where
@@ -68,11 +100,9 @@ module _ (file : List ℕ) (j : Job) (e : j ≡ jobOf file) where
     unfolding listPiece
     file-refused h z = rw (← reply-is, ne-eqb (j .reply .number) 0 z) h
 
-    pub file-listed : (k : ℕ) → k ≡ j .columns → j .reply .number ≡ 0
-        → PieceLeaves (tablesPiece (numbers file (j .tree .start) (j .tree .count)) (numbers file (j .query .start) (j .query .count)) k at room) before r out
-        → PieceLeaves (listPiece file at room) before r out
-    unfolding listPiece treeIn queryIn columnsIn
-    file-listed k f z h = rw (← reply-is, eq-eqb (j .reply .number) 0 z) (rw (f, e) at h)
+    pub file-listed : j .reply .number ≡ 0 → PieceLeaves (jobPiece file j at room) before r out → PieceLeaves (listPiece file at room) before r out
+    unfolding listPiece
+    file-listed z h = rw (← reply-is, eq-eqb (j .reply .number) 0 z) (rw e at h)
 
 -- which piece it is
 

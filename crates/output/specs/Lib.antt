@@ -1,3 +1,4 @@
 pub mod Output
 pub mod Piece
 pub mod Calls
+pub mod Before

@@ -1,20 +1,35 @@
 -- What the program prints for a job file, every byte of it (document 01: 'The job file').
 use Prim.Native.Nat.{ℕ}
-use mathlib.Core.Bool.{cond}
+use mathlib.Core.Bool.{Bool, cond}
 use mathlib.Core.List.{List, _++_, map}
 use lib.Dec.{eqb}
 use lib.ListN.{length}
 use Rattle.model.specs.Answers.{Row, answers}
 use Rattle.model.specs.Pages.{flat}
 use Rattle.model.specs.Refusals.{Check, verdict}
-use Rattle.model.specs.Checks.{treeChecks, queryChecks}
+use Rattle.model.specs.Checks.{queryChecks}
+use Rattle.model.specs.Parties.{sharedChecks, partyChecks, seenTable}
 use Rattle.model.specs.declared.Reply.{Reply}
-use Rattle.job.specs.JobFile.{numbers, fileChecks, jobOf}
+use Rattle.job.specs.declared.Span.{Span}
+use Rattle.job.specs.JobFile.{numbers, fileChecks, jobOf, widened}
 use Rattle.lines.specs.Lines.{rowLine, endLine, refusedLine}
 
--- the tree table that a file holds; no numbers where the file is refused
+-- the shared table of a file's tree part: without owners it has two numbers a node, and all nodes are common
+unfoldable pub sharedOf : List ℕ → Span → Bool → List ℕ
+sharedOf file tree owners =
+    cond owners (numbers file (tree .start) (tree .count)) (widened (numbers file (tree .start) (tree .count)))
+
+-- the shared table that a file holds; no numbers where the file is refused
+unfoldable pub sharedIn : List ℕ → List ℕ
+sharedIn file = sharedOf file (jobOf file .tree) (jobOf file .owners)
+
+-- the party that it is for
+unfoldable pub partyIn : List ℕ → ℕ
+partyIn file = jobOf file .party
+
+-- the tree that this party sees of it
 unfoldable pub treeIn : List ℕ → List ℕ
-treeIn file = numbers file (jobOf file .tree .start) (jobOf file .tree .count)
+treeIn file = seenTable (sharedIn file) (partyIn file)
 
 -- the query table that it holds
 unfoldable pub queryIn : List ℕ → List ℕ
@@ -24,9 +39,11 @@ queryIn file = numbers file (jobOf file .query .start) (jobOf file .query .count
 unfoldable pub columnsIn : List ℕ → ℕ
 columnsIn file = jobOf file .columns
 
--- the checks of a file: 1 to 4 of the file itself, then 5 to 15 of its tables, for which answers are to be listed
+-- the checks of a file: 1 to 4 of the file itself, 5 to 7 and 30 of its shared table, 31 of its party, and 8 to 15 of its query, for which
+-- answers are to be listed
 unfoldable pub jobChecks : List ℕ → List Check
-jobChecks file = fileChecks file ++ (treeChecks (treeIn file) ++ queryChecks (queryIn file) 1 (columnsIn file))
+jobChecks file =
+    fileChecks file ++ ((sharedChecks (sharedIn file) ++ partyChecks (partyIn file)) ++ queryChecks (queryIn file) 1 (columnsIn file))
 
 -- the verdict on a file
 unfoldable pub jobVerdict : List ℕ → Reply

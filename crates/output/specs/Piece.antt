@@ -10,12 +10,14 @@ use Rattle.model.specs.Answers.{Row, answers}
 use Rattle.model.specs.Pages.{after, moved, some}
 use Rattle.model.specs.Refusals.{verdict, reply}
 use Rattle.model.specs.Checks.{pageChecks}
-use Rattle.job.specs.JobFile.{fileChecks}
+use Rattle.model.specs.Parties.{overSeen}
+use Rattle.job.specs.declared.Job.{Job}
+use Rattle.job.specs.JobFile.{numbers, fileChecks, jobOf}
 use Rattle.lines.specs.Lines.{endLine, refusedLine}
 use Rattle.answers.specs.declared.Paged.{Paged}
 use Rattle.output.specs.declared.Position.{Position}
 use Rattle.output.specs.declared.Piece.{Piece}
-use Rattle.output.specs.Output.{treeIn, queryIn, columnsIn, linesOf}
+use Rattle.output.specs.Output.{sharedOf, linesOf}
 
 -- before the first piece: a fresh cursor, and no row written
 abbrev pub beginning : Position
@@ -73,12 +75,20 @@ tablesPiece t q columns at room =
     (some (drop (numbersFor room / columns) (after columns (answers t q columns) (at .cursor)))))
     (refusedPiece (verdict (pageChecks t q columns (at .cursor) (numbersFor room))) at)
 
--- of a file: the same of the tables that it holds, or its refusal, 1 to 4
+-- of a shared table for a party: the same of the tree that the party sees, or the refusal of table or party, 5 to 7, 30 and 31
+unfoldable pub sharedPiece : List ℕ → ℕ → List ℕ → ℕ → Position → ℕ → PieceOutcome
+sharedPiece t party q columns at room = overSeen t party (λ v. refusedPiece v at) (λ u. tablesPiece u q columns at room)
+
+-- of an opened file: the same of what it holds
+unfoldable pub jobPiece : List ℕ → Job → Position → ℕ → PieceOutcome
+jobPiece file job at room =
+    sharedPiece (sharedOf file (job .tree) (job .owners)) (job .party)
+    (numbers file (job .query .start) (job .query .count)) (job .columns) at room
+
+-- of a file: the same, or its refusal, 1 to 4
 unfoldable pub listPiece : List ℕ → Position → ℕ → PieceOutcome
 listPiece file at room =
-    cond (eqb (verdict (fileChecks file) .number) 0)
-    (tablesPiece (treeIn file) (queryIn file) (columnsIn file) at room)
-    (refusedPiece (verdict (fileChecks file)) at)
+    cond (eqb (verdict (fileChecks file) .number) 0) (jobPiece file (jobOf file) at room) (refusedPiece (verdict (fileChecks file)) at)
 
 -- the next piece of the output of a file, from a position on, in a buffer of so many bytes
 unfoldable pub pieceOutcome : List ℕ → Position → ℕ → PieceOutcome

@@ -3,8 +3,10 @@
 ghost use mathlib.Core.Path.{_≡_};
 ghost use Prim.Native.Nat.{_≤_};
 ghost use lib.ListN.{length};
-ghost use Rattle.job.specs.JobFile.{endOf, numbers};
-ghost use Rattle.output.specs.Piece.{beginning, smallest, numbersFor, endPiece, refusedPiece, afterPage, tablesPiece, listPiece, pieceOutcome, PieceLeaves};
+ghost use Rattle.model.specs.Accepted.{AcceptedTree};
+ghost use Rattle.job.specs.JobFile.{endOf, Fronts};
+ghost use Rattle.output.specs.Output.{sharedOf};
+ghost use Rattle.output.specs.Piece.{beginning, smallest, numbersFor, endPiece, refusedPiece, afterPage, tablesPiece, sharedPiece, jobPiece, listPiece, pieceOutcome, PieceLeaves};
 
 // Where the output of a file stands: after which row, how many rows are written, and whether these are all of them.
 pub struct Position {
@@ -80,7 +82,10 @@ fn page_piece(
     rows: &mut [u16],
     out: &mut [u8],
 ) -> Piece
-    requires { ⌜ (smallest ≤ length (now out)) × (length (now rows) ≡ numbersFor (length (now out))) ⌝ }
+    requires { ⌜
+        AcceptedTree (now tree)
+        × ((smallest ≤ length (now out)) × (length (now rows) ≡ numbersFor (length (now out))))
+        ⌝ }
     ensures { λ r.
         ⌜
         PieceLeaves (tablesPiece (now (tree .entry)) (now (query .entry)) columns at (length (now (out .entry)))) (now (out .entry))
@@ -110,7 +115,7 @@ fn page_piece(
 
 // The same, with a buffer of its own for the rows.
 fn rows_piece(tree: &[u16], query: &[u16], columns: usize, at: Position, out: &mut [u8]) -> Piece
-    requires { ⌜ smallest ≤ length (now out) ⌝ }
+    requires { ⌜ AcceptedTree (now tree) × (smallest ≤ length (now out)) ⌝ }
     ensures { λ r.
         ⌜
         PieceLeaves (tablesPiece (now (tree .entry)) (now (query .entry)) columns at (length (now (out .entry)))) (now (out .entry))
@@ -122,37 +127,68 @@ fn rows_piece(tree: &[u16], query: &[u16], columns: usize, at: Position, out: &m
     page_piece(tree, query, columns, at, &mut rows[..room], out)
 }
 
-// The parts of an accepted file, as numbers: it has at most 4,084 bytes before its trailer, which are 2,042 numbers.
-fn parts_piece(
-    file: &[u8],
-    tree: job::Span,
-    query: job::Span,
+// The same over the tree that a party sees of a shared table, or the refusal of table or party.
+fn shared_piece(
+    tree: &[u16],
+    party: u16,
+    query: &[u16],
     columns: usize,
     at: Position,
     out: &mut [u8],
 ) -> Piece
-    requires { ⌜
-        ((endOf tree ≤ length (now file)) × (tree .count ≤ 2042))
-        × (((endOf query ≤ length (now file)) × (query .count ≤ 2042)) × (smallest ≤ length (now out)))
-        ⌝ }
+    requires { ⌜ smallest ≤ length (now out) ⌝ }
     ensures { λ r.
         ⌜
-        PieceLeaves
-        (tablesPiece (numbers (now (file .entry)) (tree .start) (tree .count))
-        (numbers (now (file .entry)) (query .start) (query .count)) columns at (length (now (out .entry))))
-        (now (out .entry)) r (now (out .exit))
+        PieceLeaves (sharedPiece (now (tree .entry)) party (now (query .entry)) columns at (length (now (out .entry)))) (now (out .entry))
+        r (now (out .exit))
         ⌝ }
 {
-    let mut tree_numbers = [0; 2048];
+    let mut table = [0u16; 512];
+    let sight = view::look(tree, party, &mut table);
+    let v = sight.reply;
+    if v.number != 0 {
+        return refused_piece(v, at, out);
+    }
+    let count = sight.count;
+    rows_piece(&table[..count], query, columns, at, out)
+}
+
+// The shared table of a file's tree part, over the front of a buffer, and how many numbers it has.
+fn shared_table(file: &[u8], tree: job::Span, owners: bool, out: &mut [u16]) -> usize
+    requires { ⌜ (endOf tree ≤ length (now file)) × ((tree .count ≤ 2042) × (length (now out) ≡ 3072)) ⌝ }
+    ensures { λ r. ⌜ Fronts (sharedOf (now (file .entry)) tree owners) r (now (out .exit)) ⌝ }
+{
+    let count = tree.count;
+    if owners {
+        job::decode(file, tree.start, count, out);
+        return count;
+    }
+    let mut pairs = [0; 2048];
+    job::decode(file, tree.start, count, &mut pairs);
+    job::widen(&pairs[..count], out)
+}
+
+// The parts of an accepted file, as numbers: it has at most 4,084 bytes before its trailer, which are 2,042 numbers, or 3,063 where nodes
+// get an owner each.
+fn parts_piece(file: &[u8], job: job::Job, at: Position, out: &mut [u8]) -> Piece
+    requires { ⌜
+        ((endOf (job .tree) ≤ length (now file)) × (job .tree .count ≤ 2042))
+        × (((endOf (job .query) ≤ length (now file)) × (job .query .count ≤ 2042)) × (smallest ≤ length (now out)))
+        ⌝ }
+    ensures { λ r. ⌜ PieceLeaves (jobPiece (now (file .entry)) job at (length (now (out .entry)))) (now (out .entry)) r (now (out .exit)) ⌝ }
+{
+    let mut shared = [0u16; 3072];
     let mut query_numbers = [0; 2048];
-    job::decode(file, tree.start, tree.count, &mut tree_numbers);
+    let tree = job.tree;
+    let query = job.query;
+    let count = shared_table(file, tree, job.owners, &mut shared);
     job::decode(file, query.start, query.count, &mut query_numbers);
-    let tree_count = tree.count;
     let query_count = query.count;
-    rows_piece(
-        &tree_numbers[..tree_count],
+    shared_piece(
+        &shared[..count],
+        job.party,
         &query_numbers[..query_count],
-        columns,
+        model::wide(job.columns),
         at,
         out,
     )
@@ -172,9 +208,7 @@ fn list_piece(file: &[u8], at: Position, out: &mut [u8]) -> Piece
     if reply.number != 0 {
         return refused_piece(reply, at, out);
     }
-    let tree = job.tree;
-    let query = job.query;
-    parts_piece(file, tree, query, model::wide(job.columns), at, out)
+    parts_piece(file, job, at, out)
 }
 
 // Where the output of every file begins.

@@ -29,7 +29,8 @@ use Rattle.answers.proofs.Accepted.{page-tree, page-cursor, page-searchable}
 use Rattle.quick.specs.declared.Quick.{Quick}
 use Rattle.quick.specs.Effort.{effort}
 use Rattle.quick.specs.Search.{Ready}
-use Rattle.quick.specs.Service.{plainReply, quickEffort, countedOf, plainOf, refusedPage, QuickLeaves}
+use Rattle.answers.specs.Search.{refusedPage}
+use Rattle.quick.specs.Service.{plainReply, quickEffort, countedOf, plainOf, QuickLeaves}
 
 sharing-numbered : (q : List ℕ) → numbered (sharingChecks q) ≡ true
 unfolding sharingChecks numbered

@@ -7,4 +7,3 @@ pub mod Seeking
 pub mod Count
 pub mod Writing
 pub mod Accepted
-pub mod Meets

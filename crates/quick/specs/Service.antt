@@ -1,11 +1,10 @@
 -- What a quick page call leaves, whatever it is lent (document 02, §7).
 use Prim.Native.Nat.{ℕ, _+_, _*_, _≤_}
 use mathlib.Core.Path.{_≡_}
-use mathlib.Core.Bool.{false, cond}
+use mathlib.Core.Bool.{cond}
 use mathlib.Core.List.{List}
 use lib.Dec.{eqb}
 use Rattle.model.specs.declared.Cursor.{Cursor}
-use Rattle.model.specs.declared.Reply.{Reply}
 use Rattle.model.specs.declared.PageReply.{PageReply}
 use Rattle.model.specs.declared.QuickReply.{QuickReply}
 use Rattle.model.specs.Tree.{sizeOf}
@@ -55,7 +54,3 @@ countedOf p evaluations =
 -- a page without them
 abbrev pub plainOf : Quick → Paged
 plainOf p = record { reply = plainReply (p .reply); cursor = p .cursor }
-
--- the page of a refused call
-abbrev pub refusedPage : Reply → Cursor → Paged
-refusedPage v c = record { reply = record { number = v .number; place = v .place; count = 0; more = false }; cursor = c }

@@ -9,11 +9,11 @@ ghost use Rattle.model.specs.Tree.{sizeOf};
 ghost use Rattle.model.specs.Pages.{rowOf, hasBegun};
 ghost use Rattle.model.specs.Refusals.{verdict};
 ghost use Rattle.model.specs.Checks.{quickChecks};
-ghost use Rattle.model.specs.Accepted.{Below};
+ghost use Rattle.model.specs.Accepted.{AcceptedTree, Below};
 ghost use Rattle.model.specs.Services.{pageOutcome, PageLeaves};
-ghost use Rattle.answers.specs.Search.{Searchable};
+ghost use Rattle.answers.specs.Search.{Searchable, refusedPage};
 ghost use Rattle.quick.specs.Search.{Ready, Nodes, passes, goesOn, someAnswer, Seeks, Begins, FirstFrom, Sought, SoughtAfter, noAnswer};
-ghost use Rattle.quick.specs.Service.{PageWritten, countedOf, plainOf, refusedPage, QuickLeaves};
+ghost use Rattle.quick.specs.Service.{PageWritten, countedOf, plainOf, QuickLeaves};
 
 // A number that was tried for a variable, and the evaluations made so far.
 struct Tried {
@@ -293,6 +293,7 @@ fn check_quick(
     cursor: model::Cursor,
     room: usize,
 ) -> model::Reply
+    requires { ⌜ AcceptedTree (now tree) ⌝ }
     ensures { λ r. ⌜ r ≡ verdict (quickChecks (now (tree .entry)) (now (query .entry)) columns cursor room) ⌝ }
 {
     let v = checks::check_listing(tree, query, columns);
@@ -307,7 +308,7 @@ fn check_quick(
 }
 
 // The reply to a refused call: no evaluation was made.
-fn refused(v: model::Reply, cursor: model::Cursor) -> Quick
+pub fn refused(v: model::Reply, cursor: model::Cursor) -> Quick
     ensures { λ r. ⌜ r ≡ countedOf (refusedPage v cursor) 0 ⌝ }
 {
     Quick {
@@ -322,8 +323,8 @@ fn refused(v: model::Reply, cursor: model::Cursor) -> Quick
     }
 }
 
-// The page after a cursor, by value: the reply, with the evaluations that were made, and the cursor after it. The tree and the query
-// are checked, and the previous siblings found, once a call.
+// The page after a cursor over an accepted tree, by value: the reply, with the evaluations that were made, and the cursor after it. The
+// query is checked, and the previous siblings found, once a call.
 pub fn page_from(
     tree: &[u16],
     query: &[u16],
@@ -331,6 +332,7 @@ pub fn page_from(
     cursor: model::Cursor,
     rows: &mut [u16],
 ) -> Quick
+    requires { ⌜ AcceptedTree (now tree) ⌝ }
     ensures { λ r.
         ⌜
         QuickLeaves (now (tree .entry)) (now (query .entry)) columns cursor (now (rows .entry))
@@ -370,6 +372,7 @@ pub fn page_either(
     cursor: model::Cursor,
     rows: &mut [u16],
 ) -> answers::Paged
+    requires { ⌜ AcceptedTree (now tree) ⌝ }
     ensures { λ r.
         ⌜
         PageLeaves (pageOutcome (now (tree .entry)) (now (query .entry)) columns cursor (now (rows .entry)))

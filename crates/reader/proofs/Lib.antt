@@ -2,7 +2,6 @@ pub mod Names
 pub mod Keeping
 pub mod Places
 pub mod Took
-pub mod Copying
 pub mod Loop
 pub mod Verdicts
 pub mod Theorems

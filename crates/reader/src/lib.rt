@@ -4,8 +4,7 @@
 ghost use mathlib.Core.Path.{_≡_};
 ghost use mathlib.Core.Bool.{cond, false};
 ghost use Prim.Native.Nat.{_+_, _-_, _≤_, _<_};
-ghost use mathlib.Core.List.{_++_};
-ghost use lib.ListN.{length, take, drop};
+ghost use lib.ListN.{length};
 ghost use lib.Dec.{ltb, eqb};
 ghost use Rattle.model.specs.Refusals.{verdict};
 ghost use Rattle.names.specs.declared.Tag.the-variants.{Unknown};
@@ -341,18 +340,6 @@ fn refused(v: model::Reply) -> model::ReadReply
     }
 }
 
-// The first numbers of a table over the front of a buffer.
-fn copy(table: &[u16], count: usize, query: &mut [u16])
-    requires { ⌜ (count ≤ length (now table)) × (count ≤ length (now query)) ⌝ }
-    ensures { λ _. ⌜ now (query .exit) ≡ take count (now (table .entry)) ++ drop count (now (query .entry)) ⌝ }
-{
-    let mut i = 0;
-    while i < count {
-        query[i] = table[i];
-        i = i + 1;
-    }
-}
-
 // The reading of a text of at most 1,024 bytes: 24, 25, 26, 20, or its table.
 fn read_table(text: &[u8], house: &[u8], site: &[u8], query: &mut [u16]) -> model::ReadReply
     requires { ⌜ length (now text) ≤ 1024 ⌝ }
@@ -366,7 +353,7 @@ fn read_table(text: &[u8], house: &[u8], site: &[u8], query: &mut [u16]) -> mode
     }
     let d = r.draft;
     let count = 4 * d.entries;
-    copy(&table, count, query);
+    model::copy(&table, count, query);
     model::ReadReply {
         number: 0,
         place: 0,

@@ -2,6 +2,7 @@
 use super::bit_tables;
 use super::damage;
 use super::random;
+use harness::shared;
 use harness::table;
 
 // So many bytes, each 0 or 1: few ones, half of them, or nothing but ones.
@@ -102,29 +103,32 @@ fn in_nodes(seed: &mut u64, nodes: &mut table::Table, n: usize) -> model::Reply 
 // A fault in a table, or in the assigned nodes, or none but that there is no room.
 fn in_part(
     seed: &mut u64,
-    tree: &mut table::Table,
+    shared: &mut shared::Shared,
     query: &mut table::Table,
     nodes: &mut table::Table,
+    n: usize,
     which: usize,
 ) -> model::Reply {
     if which < 2 {
-        return damage::in_table(seed, tree, query, which);
+        return damage::in_table(seed, shared, query, which);
     }
     if which == 2 {
-        return in_nodes(seed, nodes, table::size(tree));
+        return in_nodes(seed, nodes, n);
     }
     damage::reply(20, 0)
 }
 
-// Puts any fault into what a call for pairs in bits would be lent. There is never enough room, since any other fault is told first.
+// Puts any fault into what a call for pairs in bits would be lent, for a party that sees n nodes. There is never enough room, since any
+// other fault is told first.
 pub fn put(
     seed: &mut u64,
-    tree: &mut table::Table,
+    shared: &mut shared::Shared,
     query: &mut table::Table,
     nodes: &mut table::Table,
+    n: usize,
 ) -> Fault {
     let columns = table::length(nodes);
-    let room = random::below(seed, table::times(4, table::size(tree)));
+    let room = random::below(seed, table::times(4, n));
     let which = random::below(seed, 5);
     if which == 4 {
         return Fault {
@@ -136,6 +140,6 @@ pub fn put(
     Fault {
         columns: columns,
         room: room,
-        reply: in_part(seed, tree, query, nodes, which),
+        reply: in_part(seed, shared, query, nodes, n, which),
     }
 }

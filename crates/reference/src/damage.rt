@@ -1,8 +1,9 @@
-// Faults in what a page is lent: another tree, another query, another number of variables, another cursor, or too little room;
-// each with the reply that is due.
+// Faults in what a page is lent: another shared table or party, another query, another number of variables, another cursor, or too
+// little room; each with the reply that is due.
 use super::evaluator;
 use super::listing;
 use super::random;
+use harness::shared;
 use harness::table;
 
 pub fn reply(number: usize, place: usize) -> model::Reply {
@@ -20,22 +21,82 @@ fn reserved(seed: &mut u64, x: usize) -> usize {
     random::between(seed, evaluator::DOCUMENT, 65535)
 }
 
-// A tree ends within a node, a node is its own parent, or its tag is reserved.
-pub fn in_tree(seed: &mut u64, tree: &mut table::Table) -> model::Reply {
-    let x = random::below(seed, table::size(tree));
-    let parent = std::num::wrapping_add_usize(x, x);
-    let tag = std::num::wrapping_add_usize(parent, 1);
-    let fault = random::below(seed, 3);
+// A shared table ends within node x, is empty, or has 257 nodes.
+fn in_length(seed: &mut u64, shared: &mut shared::Shared, x: usize) -> model::Reply {
+    let form = random::below(seed, 8);
+    let mut length = std::num::wrapping_add_usize(table::times(3, x), form % 2 + 1);
+    if form == 6 {
+        length = 0;
+    }
+    if form == 7 {
+        length = random::between(seed, 769, 771);
+    }
+    shared::set_length(shared, length);
+    reply(5, 0)
+}
+
+// An owner that node x may not have: above 2 or, where it is node 0, any but 0.
+fn bad_owner(seed: &mut u64, x: usize) -> usize {
+    let form = random::below(seed, 4);
+    if form == 0 {
+        return 65535;
+    }
+    if form == 1 {
+        return random::between(seed, 3, 65535);
+    }
+    if x == 0 {
+        return random::between(seed, 1, 2);
+    }
+    3
+}
+
+// No party: 0, 3, or any number above.
+fn bad_party(seed: &mut u64) -> usize {
+    let form = random::below(seed, 4);
+    if form == 0 {
+        return random::between(seed, 4, 65535);
+    }
+    if form == 1 {
+        return 65535;
+    }
+    table::times(3, form % 2)
+}
+
+// One of the faults of a shared table and its party, in the order in which they are told: the length; a node that is its own parent, has
+// a reserved tag, or a bad owner; and no party.
+fn put_fault(seed: &mut u64, shared: &mut shared::Shared, fault: usize) -> model::Reply {
+    let x = random::below(seed, shared::size(shared));
+    let parent = table::times(3, x);
     if fault == 0 {
-        table::set_length(tree, tag);
-        return reply(5, 0);
+        return in_length(seed, shared, x);
     }
     if fault == 1 {
-        table::put(tree, parent, x);
+        shared::put(shared, parent, x);
         return reply(6, x);
     }
-    table::put(tree, tag, reserved(seed, x));
-    reply(7, x)
+    if fault == 2 {
+        let tag = reserved(seed, x);
+        shared::put(shared, std::num::wrapping_add_usize(parent, 1), tag);
+        return reply(7, x);
+    }
+    if fault == 3 {
+        let owner = bad_owner(seed, x);
+        shared::put(shared, std::num::wrapping_add_usize(parent, 2), owner);
+        return reply(30, x);
+    }
+    let party = bad_party(seed);
+    shared::set_party(shared, party);
+    reply(31, 0)
+}
+
+// Puts a fault into a shared table or its party, hidden or not, and mostly one besides that would be told later.
+pub fn in_shared(seed: &mut u64, shared: &mut shared::Shared) -> model::Reply {
+    let fault = random::below(seed, 5);
+    let later = random::between(seed, fault, 4);
+    if fault < later {
+        put_fault(seed, shared, later);
+    }
+    put_fault(seed, shared, fault)
 }
 
 // The number of refusal for a left field that is too high: an operand, or else an axis or a variable.
@@ -179,12 +240,12 @@ fn in_cursor(seed: &mut u64, s: listing::Space, room: usize) -> Fault {
 // A fault in one of the tables.
 pub fn in_table(
     seed: &mut u64,
-    tree: &mut table::Table,
+    shared: &mut shared::Shared,
     query: &mut table::Table,
     which: usize,
 ) -> model::Reply {
     if which == 0 {
-        return in_tree(seed, tree);
+        return in_shared(seed, shared);
     }
     in_query(seed, query)
 }
@@ -192,7 +253,7 @@ pub fn in_table(
 // Puts any fault into what a page would be lent. But for the last the room is any, since an earlier fault is told first.
 pub fn put(
     seed: &mut u64,
-    tree: &mut table::Table,
+    shared: &mut shared::Shared,
     query: &mut table::Table,
     s: listing::Space,
     cursor: model::Cursor,
@@ -200,7 +261,12 @@ pub fn put(
     let which = random::below(seed, 5);
     let room = random::below(seed, table::times(3, s.columns));
     if which < 2 {
-        return lent(s.columns, room, cursor, in_table(seed, tree, query, which));
+        return lent(
+            s.columns,
+            room,
+            cursor,
+            in_table(seed, shared, query, which),
+        );
     }
     if which == 2 {
         return in_count(seed, query, s.columns, room, cursor);

@@ -37,7 +37,7 @@ fn relate(pairs: &mut Pairs, e: usize, x: usize, y: usize, holds: bool) {
 
 // Axes, node against node.
 
-fn parent(tree: &[u16], x: usize) -> usize {
+pub fn parent(tree: &[u16], x: usize) -> usize {
     table::at(tree, std::num::wrapping_add_usize(x, x))
 }
 

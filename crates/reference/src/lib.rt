@@ -1,7 +1,7 @@
 // The test program's own evaluator, written separately from the engine, straight from document 01 and, for the document node,
 // document 02: pairs, images, answers, and the pages that are due; from document 02 the index of a tree and what is found by one,
-// relations as bits, and the rule of quick pages with the evaluations that they make; the random trees, queries and sets that the
-// engine is tried on; and what is refused instead of them.
+// relations as bits, the rule of quick pages with the evaluations that they make, and what a party sees of a shared table; the random
+// trees, owners, queries and sets that the engine is tried on; and what is refused instead of them.
 pub mod bit_damage;
 pub mod bit_tables;
 pub mod damage;
@@ -12,9 +12,11 @@ pub mod index_damage;
 pub mod indexing;
 pub mod keeping;
 pub mod listing;
+pub mod owning;
 pub mod random;
 pub mod rule;
 pub mod searching;
+pub mod seeing;
 pub mod shapes;
 pub mod steer;
 pub mod tagging;

@@ -48,7 +48,7 @@ pub fn climbed(tree: &table::Table, x: usize, steps: usize) -> usize {
 }
 
 // One of a few tags, or of all but the reserved ones the highest.
-fn tag(seed: &mut u64) -> usize {
+pub fn tag(seed: &mut u64) -> usize {
     let t = below(seed, 12);
     if t == 11 {
         return 65533;

@@ -81,10 +81,14 @@ pub fn lowest(query: &table::Table) -> usize {
     64
 }
 
+// A refusal that comes before 29: up to 15, and of owners and party.
+fn comes_first(number: usize) -> bool {
+    ((0 < number) & (number < 16)) | (number == 30) | (number == 31)
+}
+
 // The reply that is due to a quick page where a page would get another: 29 comes after 15 and before 17.
 pub fn reply_for(query: &table::Table, other: model::Reply) -> model::Reply {
-    let number = model::wide(other.number);
-    if (0 < number) & (number < 16) {
+    if comes_first(model::wide(other.number)) {
         return other;
     }
     let place = lowest(query);

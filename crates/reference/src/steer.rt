@@ -4,9 +4,11 @@
 use super::evaluator;
 use super::keeping;
 use super::listing;
+use super::owning;
 use super::random;
 use super::rule;
 use harness::line;
+use harness::shared;
 use harness::table;
 use harness::tally;
 
@@ -105,6 +107,7 @@ fn end(seed: &mut u64, query: &mut table::Table, columns: usize, keeps: bool) {
 fn make_once(
     seed: &mut u64,
     line: &line::Line,
+    shared: &mut shared::Shared,
     tree: &mut table::Table,
     query: &mut table::Table,
     pairs: &mut evaluator::Pairs,
@@ -112,28 +115,30 @@ fn make_once(
     keeps: bool,
 ) -> listing::Answers {
     let columns = random::make_both(seed, line, tree, query, keeps);
+    owning::choose(seed, tree, shared);
     end(seed, query, columns, keeps);
     listing::list(pairs, tree, query, columns, marks)
 }
 
-// Makes a tree and a query that a line asks for, and marks the answers; up to eight times, while they have no gaps. Where asked for,
-// the query keeps the rule of quick pages.
+// Makes a shared table with a party, the tree that this sees, and a query, as a line asks for, and marks the answers; up to eight times,
+// while they have no gaps. Where asked for, the query keeps the rule of quick pages.
 pub fn make(
     seed: &mut u64,
     line: &line::Line,
+    shared: &mut shared::Shared,
     tree: &mut table::Table,
     query: &mut table::Table,
     pairs: &mut evaluator::Pairs,
     marks: &mut table::Cells,
     keeps: bool,
 ) -> listing::Answers {
-    let mut a = make_once(seed, line, tree, query, pairs, marks, keeps);
+    let mut a = make_once(seed, line, shared, tree, query, pairs, marks, keeps);
     let mut i: usize = 1;
     while i < 8 {
         if listing::have_gaps(a) {
             return a;
         }
-        let next = make_once(seed, line, tree, query, pairs, marks, keeps);
+        let next = make_once(seed, line, shared, tree, query, pairs, marks, keeps);
         a = next;
         i += 1;
     }

@@ -24,7 +24,11 @@ pairsWords t q nodes = bitTable (sizeOf t) (related t q nodes (lastOf q) false)
 abbrev pub bitPairsReply : List ℕ → List ℕ → ℕ → List ℕ → List ℕ → Reply
 bitPairsReply t q columns nodes to = verdict (bitPairsChecks t q columns nodes (length to))
 
+-- the buffer after it
+abbrev pub bitPairsBuffer : List ℕ → List ℕ → ℕ → List ℕ → List ℕ → List ℕ
+bitPairsBuffer t q columns nodes to = written (bitPairsReply t q columns nodes to) (pairsWords t q nodes) to
+
 -- a reply, and a buffer as it was left, are those of the call
 abbrev pub BitPairsLeave : List ℕ → List ℕ → ℕ → List ℕ → List ℕ → Reply → List ℕ → Type 0
 BitPairsLeave t q columns nodes to r after =
-    (r ≡ bitPairsReply t q columns nodes to) × (after ≡ written (bitPairsReply t q columns nodes to) (pairsWords t q nodes) to)
+    (r ≡ bitPairsReply t q columns nodes to) × (after ≡ bitPairsBuffer t q columns nodes to)

@@ -1,10 +1,11 @@
-// The second engine: a query's pairs as a table of bits, made by operations on whole tables. The service has no precondition: what is
-// malformed is refused, and then the buffer is left as it was.
+// The second engine: a query's pairs as a table of bits, made by operations on whole tables. The tree is an accepted one;
+// all else that is malformed is refused, and then the buffer is left as it was.
 mod table;
 mod write;
 
 ghost use mathlib.Core.Path.{_≡_};
 ghost use Rattle.model.specs.Refusals.{verdict};
+ghost use Rattle.model.specs.Accepted.{AcceptedTree};
 ghost use Rattle.relations.specs.Services.{bitPairsChecks, BitPairsLeave};
 
 // The checks 5 to 17 and 20, for a buffer of so many words.
@@ -15,6 +16,7 @@ fn check_pairs(
     nodes: &[u16],
     room: usize,
 ) -> model::Reply
+    requires { ⌜ AcceptedTree (now tree) ⌝ }
     ensures { λ r.
         ⌜ r ≡ verdict (bitPairsChecks (now (tree .entry)) (now (query .entry)) columns (now (nodes .entry)) room) ⌝ }
 {
@@ -35,6 +37,7 @@ pub fn pairs(
     nodes: &[u16],
     words: &mut [u64],
 ) -> model::Reply
+    requires { ⌜ AcceptedTree (now tree) ⌝ }
     ensures { λ r.
         ⌜
         BitPairsLeave (now (tree .entry)) (now (query .entry))

@@ -3,23 +3,29 @@
 ghost use mathlib.Core.Path.{_≡_};
 ghost use mathlib.Core.Bool.{true, false};
 ghost use Rattle.model.specs.Refusals.{verdict};
-ghost use Rattle.model.specs.Checks.{treeChecks, queryChecks};
-ghost use Rattle.model.specs.Services.{ImageLeaves, PairsLeave};
-ghost use Rattle.model.specs.Services.{pageOutcome, PageLeaves};
-ghost use Rattle.quick.specs.Service.{QuickLeaves};
-ghost use Rattle.relations.specs.Services.{BitPairsLeave};
+ghost use Rattle.model.specs.Checks.{queryChecks};
+ghost use Rattle.model.specs.Parties.{sharedChecks};
+ghost use Rattle.model.specs.Services.{Leaves, seenImage, seenPairs, seenPage, PageLeaves};
+ghost use Rattle.view.specs.View.{seenTree};
+ghost use Rattle.parties.specs.Services.{seenBits, SeenQuickLeaves, seenIndex, BothLeave, seenLookup};
 ghost use Rattle.packing.specs.Services.{PackLeaves, UnpackLeaves};
-ghost use Rattle.index.specs.Index.{IndexLeaves};
-ghost use Rattle.lookup.specs.Chain.{LookupLeaves};
 ghost use Rattle.names.specs.Names.{nameChecks, partFor, IsPart};
 ghost use Rattle.reader.specs.Read.{ReadLeaves};
 
-// The check of a tree table.
+// The check of a shared tree table.
 #[no_mangle]
 pub extern "C" fn gz_check_tree(tree: &[u16]) -> model::Reply
-    ensures { λ r. ⌜ r ≡ verdict (treeChecks (now (tree .entry))) ⌝ }
+    ensures { λ r. ⌜ r ≡ verdict (sharedChecks (now (tree .entry))) ⌝ }
 {
-    tree::check_tree(tree)
+    ownership::check_table(tree)
+}
+
+// The tree that a party sees of a shared table, at the front of the buffer.
+#[no_mangle]
+pub extern "C" fn gz_seen(tree: &[u16], party: u16, table: &mut [u16]) -> model::MadeReply
+    ensures { λ r. ⌜ Leaves (seenTree (now (tree .entry)) party (now (table .entry))) r (now (table .exit)) ⌝ }
+{
+    view::seen(tree, party, table)
 }
 
 // The check of a query table with its number of variables.
@@ -34,6 +40,7 @@ pub extern "C" fn gz_check_query(query: &[u16], columns: u16) -> model::Reply
 #[no_mangle]
 pub extern "C" fn gz_forwards(
     tree: &[u16],
+    party: u16,
     query: &[u16],
     columns: u16,
     nodes: &[u16],
@@ -42,18 +49,19 @@ pub extern "C" fn gz_forwards(
 ) -> model::ImageReply
     ensures { λ r.
         ⌜
-        ImageLeaves (now (tree .entry)) (now (query .entry))
-        columns (now (nodes .entry)) false (now (from .entry)) (now (to .entry))
+        Leaves
+        (seenImage (now (tree .entry)) party (now (query .entry)) columns (now (nodes .entry)) false (now (from .entry)) (now (to .entry)))
         r (now (to .exit))
         ⌝ }
 {
-    images::forwards(tree, query, model::wide(columns), nodes, from, to)
+    parties::forwards(tree, party, query, model::wide(columns), nodes, from, to)
 }
 
 // The nodes that reach a set by a query, and how many they are.
 #[no_mangle]
 pub extern "C" fn gz_backwards(
     tree: &[u16],
+    party: u16,
     query: &[u16],
     columns: u16,
     nodes: &[u16],
@@ -62,18 +70,19 @@ pub extern "C" fn gz_backwards(
 ) -> model::ImageReply
     ensures { λ r.
         ⌜
-        ImageLeaves (now (tree .entry)) (now (query .entry))
-        columns (now (nodes .entry)) true (now (from .entry)) (now (to .entry))
+        Leaves
+        (seenImage (now (tree .entry)) party (now (query .entry)) columns (now (nodes .entry)) true (now (from .entry)) (now (to .entry)))
         r (now (to .exit))
         ⌝ }
 {
-    images::backwards(tree, query, model::wide(columns), nodes, from, to)
+    parties::backwards(tree, party, query, model::wide(columns), nodes, from, to)
 }
 
 // All pairs of a query.
 #[no_mangle]
 pub extern "C" fn gz_pairs(
     tree: &[u16],
+    party: u16,
     query: &[u16],
     columns: u16,
     nodes: &[u16],
@@ -81,18 +90,19 @@ pub extern "C" fn gz_pairs(
 ) -> model::Reply
     ensures { λ r.
         ⌜
-        PairsLeave (now (tree .entry)) (now (query .entry))
-        columns (now (nodes .entry)) (now (table .entry))
+        Leaves
+        (seenPairs (now (tree .entry)) party (now (query .entry)) columns (now (nodes .entry)) (now (table .entry)))
         r (now (table .exit))
         ⌝ }
 {
-    images::pairs(tree, query, model::wide(columns), nodes, table)
+    parties::pairs(tree, party, query, model::wide(columns), nodes, table)
 }
 
 // All pairs of a query, a bit a pair.
 #[no_mangle]
 pub extern "C" fn gz_pairs_bits(
     tree: &[u16],
+    party: u16,
     query: &[u16],
     columns: u16,
     nodes: &[u16],
@@ -100,12 +110,12 @@ pub extern "C" fn gz_pairs_bits(
 ) -> model::Reply
     ensures { λ r.
         ⌜
-        BitPairsLeave (now (tree .entry)) (now (query .entry))
-        columns (now (nodes .entry)) (now (words .entry))
+        Leaves
+        (seenBits (now (tree .entry)) party (now (query .entry)) columns (now (nodes .entry)) (now (words .entry)))
         r (now (words .exit))
         ⌝ }
 {
-    relations::pairs(tree, query, model::wide(columns), nodes, words)
+    parties::pairs_bits(tree, party, query, model::wide(columns), nodes, words)
 }
 
 // A relation among n nodes, from bytes to bits.
@@ -124,10 +134,12 @@ pub extern "C" fn gz_unpack(n: u16, words: &[u64], table: &mut [u8]) -> model::R
     packing::unpack(model::wide(n), words, table)
 }
 
-// The page of answers after the cursor that is lent, which moves on to the last row written.
+// The page of answers after the cursor that is lent, which moves on to the last row written. The cursor is taken apart here, and the page
+// found by value.
 #[no_mangle]
 pub extern "C" fn gz_page(
     tree: &[u16],
+    party: u16,
     query: &[u16],
     columns: u16,
     cursor: &mut model::Cursor,
@@ -135,18 +147,20 @@ pub extern "C" fn gz_page(
 ) -> model::PageReply
     ensures { λ r.
         ⌜
-        PageLeaves (pageOutcome (now (tree .entry)) (now (query .entry)) columns (now (cursor .entry)) (now (rows .entry)))
+        PageLeaves (seenPage (now (tree .entry)) party (now (query .entry)) columns (now (cursor .entry)) (now (rows .entry)))
         r (now (cursor .exit)) (now (rows .exit))
         ⌝ }
 {
-    answers::page(tree, query, columns as usize, cursor, rows)
+    let p = parties::page_from(tree, party, query, columns as usize, *cursor, rows);
+    *cursor = p.cursor;
+    p.reply
 }
 
-// The same page, found variable by variable; 29 where the query breaks the rule that this takes. The cursor is taken apart here, since
-// `quick` pages by value.
+// The same page, found variable by variable; 29 where the query breaks the rule that this takes.
 #[no_mangle]
 pub extern "C" fn gz_quick_page(
     tree: &[u16],
+    party: u16,
     query: &[u16],
     columns: u16,
     cursor: &mut model::Cursor,
@@ -154,31 +168,37 @@ pub extern "C" fn gz_quick_page(
 ) -> model::QuickReply
     ensures { λ r.
         ⌜
-        QuickLeaves (now (tree .entry)) (now (query .entry)) columns (now (cursor .entry)) (now (rows .entry))
+        SeenQuickLeaves (now (tree .entry)) party (now (query .entry)) columns (now (cursor .entry)) (now (rows .entry))
         r (now (cursor .exit)) (now (rows .exit))
         ⌝ }
 {
-    let p = quick::page_from(tree, query, columns as usize, *cursor, rows);
+    let p = parties::quick_page_from(tree, party, query, columns as usize, *cursor, rows);
     *cursor = p.cursor;
     p.reply
 }
 
-// The index of a tree, and the list of its tags.
+// The index of the tree that a party sees, and the list of its tags.
 #[no_mangle]
-pub extern "C" fn gz_index(tree: &[u16], next: &mut [u16], tags: &mut [u16]) -> index::IndexReply
+pub extern "C" fn gz_index(
+    tree: &[u16],
+    party: u16,
+    next: &mut [u16],
+    tags: &mut [u16],
+) -> index::IndexReply
     ensures { λ r.
         ⌜
-        IndexLeaves (now (tree .entry)) (now (next .entry)) (now (tags .entry))
+        BothLeave (seenIndex (now (tree .entry)) party (now (next .entry)) (now (tags .entry)))
         r (now (next .exit)) (now (tags .exit))
         ⌝ }
 {
-    index::build(tree, next, tags)
+    parties::build_index(tree, party, next, tags)
 }
 
 // The descendants of a node that have a tag, by an index that is lent, and how many they are.
 #[no_mangle]
 pub extern "C" fn gz_descendants(
     tree: &[u16],
+    party: u16,
     next: &[u16],
     start: u16,
     tag: u16,
@@ -186,11 +206,11 @@ pub extern "C" fn gz_descendants(
 ) -> model::ImageReply
     ensures { λ r.
         ⌜
-        LookupLeaves (now (tree .entry)) (now (next .entry)) start tag (now (to .entry))
+        Leaves (seenLookup (now (tree .entry)) party (now (next .entry)) start tag (now (to .entry)))
         r (now (to .exit))
         ⌝ }
 {
-    lookup::descendants(tree, next, start, tag, to)
+    parties::descendants(tree, party, next, start, tag, to)
 }
 
 // The name of a tag, as a part of the table that holds it.

@@ -1,3 +1,1 @@
-pub mod Climb
-pub mod Nodes
 pub mod Siblings

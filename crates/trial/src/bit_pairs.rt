@@ -1,5 +1,6 @@
 // Pairs in bits: each call is compared with the reply that is due, and the buffer, which is filled with a pattern, with the words
 // that are due.
+use harness::shared;
 use harness::table;
 use harness::tally;
 use reference::bit_damage;
@@ -9,7 +10,8 @@ use reference::random;
 // What fills a buffer before a call: the bytes of the word are all 7.
 pub const PATTERN: u64 = 506381209866536711;
 
-// A call: what is lent beside the tables, the number of variables and the words that there is room for; and the reply that is due.
+// A call: what is lent beside the tables and the party, the number of variables and the words that there is room for; and the reply that
+// is due.
 pub struct Call {
     pub columns: usize,
     pub room: usize,
@@ -30,42 +32,50 @@ pub fn expect(tally: &mut tally::Tally, got: model::Reply, due: model::Reply) {
 }
 
 // Lends the front of the buffer.
-fn lend(c: Call, tree: &[u16], query: &[u16], nodes: &[u16], to: &mut [u64]) -> model::Reply {
+fn lend(
+    c: Call,
+    shared: &shared::Shared,
+    query: &[u16],
+    nodes: &[u16],
+    to: &mut [u64],
+) -> model::Reply {
     let room = c.room;
     if to.len() < room {
         return no_reply();
     }
-    relations::pairs(tree, query, c.columns, nodes, &mut to[0..room])
+    let t = shared::numbers(shared);
+    let party = shared::party(shared);
+    parties::pairs_bits(t, party, query, c.columns, nodes, &mut to[0..room])
 }
 
 fn compare(
     tally: &mut tally::Tally,
     c: Call,
-    tree: &table::Table,
+    shared: &shared::Shared,
     query: &table::Table,
     nodes: &table::Table,
     due: &table::Words,
 ) {
     let mut to = [PATTERN; 1040];
-    let t = table::numbers(tree);
     let q = table::numbers(query);
     let k = table::numbers(nodes);
-    let got = lend(c, t, q, k, &mut to);
+    let got = lend(c, shared, q, k, &mut to);
     expect(tally, got, c.due);
     tally::expect_words(tally, &to, due);
 }
 
-// A call that is accepted, with the pairs that are due as bytes, and room for as many words as are needed or a few more.
+// A call that is accepted, by a party that sees n nodes, with the pairs that are due as bytes, and room for as many words as are needed or
+// a few more.
 pub fn compare_table(
     tally: &mut tally::Tally,
     seed: &mut u64,
-    tree: &table::Table,
+    shared: &shared::Shared,
+    n: usize,
     query: &table::Table,
     nodes: &table::Table,
     cells: &table::Cells,
 ) {
     let mut due = [PATTERN; 1040];
-    let n = table::size(tree);
     bit_tables::pack(cells, n, &mut due);
     let c = Call {
         columns: table::length(nodes),
@@ -75,27 +85,28 @@ pub fn compare_table(
             place: 0,
         },
     };
-    compare(tally, c, tree, query, nodes, &due);
+    compare(tally, c, shared, query, nodes, &due);
 }
 
 // A call with a fault in what it is lent; nothing is written. The query has fewer than 64 entries.
 pub fn refuse(
     tally: &mut tally::Tally,
     seed: &mut u64,
-    tree: &table::Table,
+    shared: &shared::Shared,
+    n: usize,
     query: &table::Table,
     nodes: &table::Table,
 ) {
     let due = [PATTERN; 1040];
-    let mut other_tree = *tree;
+    let mut other = *shared;
     let mut other_query = *query;
     let mut other_nodes = *nodes;
-    let f = bit_damage::put(seed, &mut other_tree, &mut other_query, &mut other_nodes);
+    let f = bit_damage::put(seed, &mut other, &mut other_query, &mut other_nodes, n);
     let reply = f.reply;
     let c = Call {
         columns: f.columns,
         room: f.room,
         due: reply,
     };
-    compare(tally, c, &other_tree, &other_query, &other_nodes, &due);
+    compare(tally, c, &other, &other_query, &other_nodes, &due);
 }

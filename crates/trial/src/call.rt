@@ -1,6 +1,7 @@
 // Calls of an evaluation, each with a buffer that is filled with a pattern: the reply is compared with the one that is due, the
 // count of an image too, and the buffer afterwards with the bytes that are due.
 use harness::line;
+use harness::shared;
 use harness::table;
 use harness::tally;
 
@@ -14,7 +15,7 @@ pub const PAIRS: u8 = b'p';
 // What fills a buffer before a call: no byte that a service writes.
 pub const PATTERN: u8 = 7;
 
-// A call: what is lent beside the tables (the number of variables, how much of the set and how much of the buffer), and
+// A call: what is lent beside the tables and the party (the number of variables, how much of the set and how much of the buffer), and
 // the reply that is due; the count where the result is a set.
 pub struct Call {
     pub service: u8,
@@ -39,24 +40,25 @@ pub fn no_reply() -> model::ImageReply {
 fn serve(
     c: Call,
     tree: &[u16],
+    party: u16,
     query: &[u16],
     nodes: &[u16],
     set: &[u8],
     to: &mut [u8],
 ) -> model::ImageReply {
     if c.service == FORWARDS {
-        return images::forwards(tree, query, c.columns, nodes, set, to);
+        return parties::forwards(tree, party, query, c.columns, nodes, set, to);
     }
     if c.service == BACKWARDS {
-        return images::backwards(tree, query, c.columns, nodes, set, to);
+        return parties::backwards(tree, party, query, c.columns, nodes, set, to);
     }
-    model::image_reply(images::pairs(tree, query, c.columns, nodes, to), 0)
+    model::image_reply(parties::pairs(tree, party, query, c.columns, nodes, to), 0)
 }
 
 // Lends the fronts of the set and of the buffer.
 fn lend(
     c: Call,
-    tree: &[u16],
+    shared: &shared::Shared,
     query: &[u16],
     nodes: &[u16],
     set: &[u8],
@@ -70,7 +72,9 @@ fn lend(
     if to.len() < room {
         return no_reply();
     }
-    serve(c, tree, query, nodes, &set[0..length], &mut to[0..room])
+    let t = shared::numbers(shared);
+    let party = shared::party(shared);
+    serve(c, t, party, query, nodes, &set[0..length], &mut to[0..room])
 }
 
 // The count of a call whose result is a set.
@@ -84,17 +88,16 @@ fn expect_count(tally: &mut tally::Tally, c: Call, count: usize) {
 fn compare(
     tally: &mut tally::Tally,
     c: Call,
-    tree: &table::Table,
+    shared: &shared::Shared,
     query: &table::Table,
     nodes: &table::Table,
     set: &[u8],
     to: &mut [u8],
     due: &[u8],
 ) {
-    let t = table::numbers(tree);
     let q = table::numbers(query);
     let k = table::numbers(nodes);
-    let got = lend(c, t, q, k, set, to);
+    let got = lend(c, shared, q, k, set, to);
     let number = model::Reply {
         number: got.number,
         place: got.place,
@@ -108,34 +111,34 @@ fn compare(
 pub fn compare_set(
     tally: &mut tally::Tally,
     c: Call,
-    tree: &table::Table,
+    shared: &shared::Shared,
     query: &table::Table,
     nodes: &table::Table,
     set: &table::Set,
     due: &table::Set,
 ) {
     let mut to = [PATTERN; 512];
-    compare(tally, c, tree, query, nodes, set, &mut to, due);
+    compare(tally, c, shared, query, nodes, set, &mut to, due);
 }
 
 // A call on a buffer for a table of pairs.
 pub fn compare_pairs(
     tally: &mut tally::Tally,
     c: Call,
-    tree: &table::Table,
+    shared: &shared::Shared,
     query: &table::Table,
     nodes: &table::Table,
     due: &table::Cells,
 ) {
     let mut to = [PATTERN; 66560];
-    compare(tally, c, tree, query, nodes, b"", &mut to, due);
+    compare(tally, c, shared, query, nodes, b"", &mut to, due);
 }
 
 // A line of the input: SERVICE NUMBER PLACE COUNT | COLUMNS ROOM | NODES | SET | BYTES, where BYTES are due at the buffer's front;
 // pairs has no COUNT.
 pub fn run(
     tally: &mut tally::Tally,
-    tree: &table::Table,
+    shared: &shared::Shared,
     query: &table::Table,
     line: &line::Line,
     service: u8,
@@ -155,5 +158,5 @@ pub fn run(
         place: line::number(line, 0, 1),
         count: line::number(line, 0, 2),
     };
-    compare_set(tally, c, tree, query, &nodes, &set, &due);
+    compare_set(tally, c, shared, query, &nodes, &set, &due);
 }

@@ -6,10 +6,12 @@ use harness::line;
 use harness::table;
 use harness::tally;
 use reference::evaluator;
+use reference::owning;
 use reference::random;
 use reference::shapes;
 
-// The pairs of one tree and one deep query that a line asks for, LEAST MOST nodes | LEAST MOST leaves, under a random assignment.
+// The pairs of one deep query over one tree that a party sees, as a line asks for, LEAST MOST nodes | LEAST MOST leaves, under a random
+// assignment.
 pub fn run(
     tally: &mut tally::Tally,
     seed: &mut u64,
@@ -17,6 +19,7 @@ pub fn run(
     pairs: &mut evaluator::Pairs,
 ) {
     let mut tree = [0u16; 1025];
+    let mut shared = [0u16; 1538];
     let mut query = [0u16; 1025];
     let mut nodes = [0u16; 1025];
     let mut cells = [call::PATTERN; 66560];
@@ -25,6 +28,8 @@ pub fn run(
     let columns = random::below(seed, 4);
     random::make_tree(seed, &mut tree, n);
     random::maybe_document(seed, &mut tree);
+    let party = random::between(seed, 1, 2);
+    owning::hide_around(seed, &tree, party, &mut shared);
     shapes::make(seed, &mut query, leaves, columns);
     random::make_nodes(seed, &mut nodes, columns, n);
     evaluator::fill(pairs, &tree, &query, &nodes);
@@ -33,5 +38,5 @@ pub fn run(
     let mixed = (0 < found) & (found < table::times(n, n));
     tally::add(tally, tally::DEEP, 1);
     tally::add(tally, tally::MIXED, mixed as u64);
-    bit_pairs::compare_table(tally, seed, &tree, &query, &nodes, &cells);
+    bit_pairs::compare_table(tally, seed, &shared, n, &query, &nodes, &cells);
 }

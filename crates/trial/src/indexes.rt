@@ -1,6 +1,7 @@
 // The making of an index: each call is compared with the reply that is due, and both buffers with the numbers that are due, those
 // behind the result with what they held.
 use harness::line;
+use harness::shared;
 use harness::table;
 use harness::tally;
 use reference::indexing;
@@ -29,7 +30,7 @@ fn no_reply() -> index::IndexReply {
 }
 
 // Lends the fronts of the buffers.
-fn lend(tree: &[u16], c: Call, next: &mut [u16], tags: &mut [u16]) -> index::IndexReply {
+fn lend(shared: &shared::Shared, c: Call, next: &mut [u16], tags: &mut [u16]) -> index::IndexReply {
     let next_room = c.next_room;
     let tags_room = c.tags_room;
     if next.len() < next_room {
@@ -38,19 +39,21 @@ fn lend(tree: &[u16], c: Call, next: &mut [u16], tags: &mut [u16]) -> index::Ind
     if tags.len() < tags_room {
         return no_reply();
     }
-    index::build(tree, &mut next[0..next_room], &mut tags[0..tags_room])
+    let t = shared::numbers(shared);
+    let party = shared::party(shared);
+    parties::build_index(t, party, &mut next[0..next_room], &mut tags[0..tags_room])
 }
 
 pub fn compare(
     tally: &mut tally::Tally,
-    tree: &table::Table,
+    shared: &shared::Shared,
     c: Call,
     due_next: &table::Rows,
     due_tags: &table::Rows,
 ) {
     let mut next = [NEXT_PATTERN; 1024];
     let mut tags = [TAGS_PATTERN; 1024];
-    let got = lend(table::numbers(tree), c, &mut next, &mut tags);
+    let got = lend(shared, c, &mut next, &mut tags);
     let number = model::Reply {
         number: got.number,
         place: got.place,
@@ -63,7 +66,7 @@ pub fn compare(
 }
 
 // index NUMBER PLACE | ROOM ROOM | NEXT | TAGS
-pub fn run(tally: &mut tally::Tally, tree: &table::Table, line: &line::Line) {
+pub fn run(tally: &mut tally::Tally, shared: &shared::Shared, line: &line::Line) {
     let mut next = [NEXT_PATTERN; 1024];
     let mut tags = [TAGS_PATTERN; 1024];
     line::copy_rows(line, 2, &mut next);
@@ -78,5 +81,5 @@ pub fn run(tally: &mut tally::Tally, tree: &table::Table, line: &line::Line) {
             tags: line::length(line, 3),
         },
     };
-    compare(tally, tree, c, &next, &tags);
+    compare(tally, shared, c, &next, &tags);
 }

@@ -2,6 +2,7 @@
 // due.
 use super::call;
 use harness::line;
+use harness::shared;
 use harness::table;
 use harness::tally;
 
@@ -14,25 +15,27 @@ pub struct Call {
 }
 
 // Lends the front of the buffer.
-fn lend(tree: &[u16], next: &[u16], c: Call, to: &mut [u8]) -> model::ImageReply {
+fn lend(shared: &shared::Shared, next: &[u16], c: Call, to: &mut [u8]) -> model::ImageReply {
     let room = c.room;
     let start = table::narrow(c.start);
     let tag = table::narrow(c.tag);
     if to.len() < room {
         return call::no_reply();
     }
-    lookup::descendants(tree, next, start, tag, &mut to[0..room])
+    let t = shared::numbers(shared);
+    let party = shared::party(shared);
+    parties::descendants(t, party, next, start, tag, &mut to[0..room])
 }
 
 pub fn compare(
     tally: &mut tally::Tally,
-    tree: &table::Table,
+    shared: &shared::Shared,
     next: &table::Table,
     c: Call,
     due: &table::Set,
 ) {
     let mut to = [call::PATTERN; 512];
-    let got = lend(table::numbers(tree), table::numbers(next), c, &mut to);
+    let got = lend(shared, table::numbers(next), c, &mut to);
     let number = model::Reply {
         number: got.number,
         place: got.place,
@@ -49,7 +52,7 @@ pub fn compare(
 }
 
 // descendants NUMBER PLACE COUNT | START TAG ROOM | NEXT | BYTES
-pub fn run(tally: &mut tally::Tally, tree: &table::Table, line: &line::Line) {
+pub fn run(tally: &mut tally::Tally, shared: &shared::Shared, line: &line::Line) {
     let mut next = [0u16; 1025];
     let mut due = [call::PATTERN; 512];
     line::copy(line, 2, &mut next);
@@ -64,5 +67,5 @@ pub fn run(tally: &mut tally::Tally, tree: &table::Table, line: &line::Line) {
             count: line::number(line, 0, 2),
         },
     };
-    compare(tally, tree, &next, c, &due);
+    compare(tally, shared, &next, c, &due);
 }

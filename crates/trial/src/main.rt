@@ -12,6 +12,7 @@ mod pages;
 mod paging;
 mod run;
 mod searches;
+mod views;
 
 fn main() {
     let mut text = io::large_buffer();

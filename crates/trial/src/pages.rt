@@ -1,23 +1,24 @@
 // Pages: each call is compared with the reply, the rows and the cursor that are due, and the buffer beyond the rows with
 // what it held; a quick page also with the evaluations that are due, and with the most that document 02 allows.
 use harness::line;
+use harness::shared;
 use harness::table;
 use harness::tally;
 use reference::rule;
+use reference::seeing;
 
-// What fills a buffer before a call: no node's number.
+// What fills a buffer before a call: no node's number, and no tag in the trees of which the seen part is asked for.
 pub const PATTERN: u16 = 7777;
 
-// The ways in which a page is asked for: row by row, variable by variable, or by whichever way the query allows.
+// The ways in which a page is asked for: row by row, and variable by variable.
 pub const PLAIN: u8 = 0;
 
 pub const QUICK: u8 = 1;
 
-pub const EITHER: u8 = 2;
-
-// A call, and the reply that is due; only a quick page tells its evaluations.
+// A call by a party that sees n nodes, and the reply that is due; only a quick page tells its evaluations.
 pub struct Call {
     pub way: u8,
+    pub n: usize,
     pub columns: usize,
     pub room: usize,
     pub due: model::QuickReply,
@@ -53,43 +54,42 @@ fn untold(p: answers::Paged) -> quick::Quick {
 // The cursor goes by value, since a function that lends a struct is proved by hand; the tests of the C boundary lend it.
 fn serve(
     c: Call,
-    tree: &[u16],
+    shared: &shared::Shared,
     query: &[u16],
     cursor: model::Cursor,
     rows: &mut [u16],
 ) -> quick::Quick {
+    let t = shared::numbers(shared);
+    let party = shared::party(shared);
     if c.way == QUICK {
-        return quick::page_from(tree, query, c.columns, cursor, rows);
+        return parties::quick_page_from(t, party, query, c.columns, cursor, rows);
     }
-    if c.way == EITHER {
-        return untold(quick::page_either(tree, query, c.columns, cursor, rows));
-    }
-    untold(answers::page_from(tree, query, c.columns, cursor, rows))
+    untold(parties::page_from(t, party, query, c.columns, cursor, rows))
 }
 
 // Lends the front of the buffer.
 fn lend(
     c: Call,
-    tree: &[u16],
+    shared: &shared::Shared,
     query: &[u16],
     cursor: model::Cursor,
     rows: &mut [u16],
 ) -> quick::Quick {
     let room = c.room;
     if rows.len() < room {
-        return serve(c, tree, query, cursor, rows);
+        return serve(c, shared, query, cursor, rows);
     }
-    serve(c, tree, query, cursor, &mut rows[0..room])
+    serve(c, shared, query, cursor, &mut rows[0..room])
 }
 
 // The evaluations of a quick page: as many as are due, and at most 6 × n for each row written and as many for `more`.
-fn expect_evaluations(tally: &mut tally::Tally, c: Call, n: usize, evaluations: usize) {
+fn expect_evaluations(tally: &mut tally::Tally, c: Call, evaluations: usize) {
     if c.way != QUICK {
         return;
     }
     let due = c.due;
     let searches = std::num::wrapping_add_usize(due.count, 1);
-    let most = table::times(table::times(6, n), searches);
+    let most = table::times(table::times(6, c.n), searches);
     tally::expect(tally, evaluations == due.evaluations);
     tally::expect(tally, evaluations <= most);
     tally::add(tally, tally::EVALUATIONS, evaluations as u64);
@@ -98,7 +98,7 @@ fn expect_evaluations(tally: &mut tally::Tally, c: Call, n: usize, evaluations: 
 // One call; answers the cursor after it.
 fn compare(
     tally: &mut tally::Tally,
-    tree: &table::Table,
+    shared: &shared::Shared,
     query: &table::Table,
     c: Call,
     cursor: model::Cursor,
@@ -106,9 +106,8 @@ fn compare(
     after: model::Cursor,
 ) -> model::Cursor {
     let mut rows = [PATTERN; 1024];
-    let t = table::numbers(tree);
     let q = table::numbers(query);
-    let got = lend(c, t, q, cursor, &mut rows);
+    let got = lend(c, shared, q, cursor, &mut rows);
     let reply = got.reply;
     let number = model::Reply {
         number: reply.number,
@@ -127,7 +126,7 @@ fn compare(
     );
     tally::expect_rows(tally, &rows, due);
     tally::expect_cursor(tally, got.cursor, after);
-    expect_evaluations(tally, c, table::size(tree), reply.evaluations);
+    expect_evaluations(tally, c, reply.evaluations);
     got.cursor
 }
 
@@ -136,6 +135,7 @@ fn by(way: u8, c: Call) -> Call {
     let due = c.due;
     Call {
         way: way,
+        n: c.n,
         columns: c.columns,
         room: c.room,
         due: due,
@@ -145,7 +145,7 @@ fn by(way: u8, c: Call) -> Call {
 // A quick page that is refused; it leaves the cursor and the buffer as they were.
 pub fn refuse_quick(
     tally: &mut tally::Tally,
-    tree: &table::Table,
+    shared: &shared::Shared,
     query: &table::Table,
     columns: usize,
     room: usize,
@@ -155,36 +155,36 @@ pub fn refuse_quick(
     let due = [PATTERN; 1024];
     let c = Call {
         way: QUICK,
+        n: 0,
         columns: columns,
         room: room,
         due: refusal(reply),
     };
-    compare(tally, tree, query, c, cursor, &due, cursor);
+    compare(tally, shared, query, c, cursor, &due, cursor);
 }
 
 // The same page asked for in each way; a quick one is refused where the query breaks the rule. Answers the cursor after the plain
 // page or, where the room is odd, after the quick one, so that they go on from each other.
 pub fn compare_ways(
     tally: &mut tally::Tally,
-    tree: &table::Table,
+    shared: &shared::Shared,
     query: &table::Table,
     c: Call,
     cursor: model::Cursor,
     due: &table::Rows,
     after: model::Cursor,
 ) -> model::Cursor {
-    let plain = compare(tally, tree, query, by(PLAIN, c), cursor, due, after);
-    compare(tally, tree, query, by(EITHER, c), cursor, due, after);
+    let plain = compare(tally, shared, query, by(PLAIN, c), cursor, due, after);
     let same = model::Reply {
         number: c.due.number,
         place: c.due.place,
     };
     let reply = rule::reply_for(query, same);
     if reply.number == 29 {
-        refuse_quick(tally, tree, query, c.columns, c.room, cursor, reply);
+        refuse_quick(tally, shared, query, c.columns, c.room, cursor, reply);
         return plain;
     }
-    let quick = compare(tally, tree, query, by(QUICK, c), cursor, due, after);
+    let quick = compare(tally, shared, query, by(QUICK, c), cursor, due, after);
     if c.room % 2 == 0 {
         return plain;
     }
@@ -195,7 +195,7 @@ pub fn compare_ways(
 // quick has no EVALUATIONS.
 fn run(
     tally: &mut tally::Tally,
-    tree: &table::Table,
+    shared: &shared::Shared,
     query: &table::Table,
     line: &line::Line,
     way: u8,
@@ -204,6 +204,7 @@ fn run(
     line::copy_rows(line, 3, &mut due);
     let c = Call {
         way: way,
+        n: seeing::size(shared),
         columns: line::number(line, 1, 0),
         room: line::number(line, 1, 1),
         due: model::QuickReply {
@@ -216,26 +217,25 @@ fn run(
     };
     let cursor = line::cursor(line, 2);
     let after = line::cursor(line, 4);
-    compare(tally, tree, query, c, cursor, &due, after);
+    compare(tally, shared, query, c, cursor, &due, after);
 }
 
-// answers: a page, and the same by whichever way the query allows.
+// answers: a page.
 pub fn run_answers(
     tally: &mut tally::Tally,
-    tree: &table::Table,
+    shared: &shared::Shared,
     query: &table::Table,
     line: &line::Line,
 ) {
-    run(tally, tree, query, line, PLAIN);
-    run(tally, tree, query, line, EITHER);
+    run(tally, shared, query, line, PLAIN);
 }
 
 // effort: a quick page.
 pub fn run_effort(
     tally: &mut tally::Tally,
-    tree: &table::Table,
+    shared: &shared::Shared,
     query: &table::Table,
     line: &line::Line,
 ) {
-    run(tally, tree, query, line, QUICK);
+    run(tally, shared, query, line, QUICK);
 }

@@ -1,14 +1,17 @@
-// The answers of random queries, page by page, each page in every way. The room changes from call to call, refused calls come
+// The answers of random queries, page by page, each page both ways. The room changes from call to call, refused calls come
 // between, and the cursor is changed where a page does not read it.
 use super::pages;
 use harness::line;
+use harness::shared;
 use harness::table;
 use harness::tally;
 use reference::damage;
 use reference::effort;
 use reference::evaluator;
 use reference::listing;
+use reference::owning;
 use reference::random;
+use reference::seeing;
 use reference::steer;
 
 // Where paging stands: the cursor, the row from which it goes on, and whether there is more.
@@ -22,25 +25,26 @@ pub struct Position {
 fn refuse(
     tally: &mut tally::Tally,
     seed: &mut u64,
-    tree: &table::Table,
+    shared: &shared::Shared,
     query: &table::Table,
     s: listing::Space,
     cursor: model::Cursor,
 ) {
     let due = [pages::PATTERN; 1024];
-    let mut other_tree = *tree;
+    let mut other = *shared;
     let mut other_query = *query;
-    let f = damage::put(seed, &mut other_tree, &mut other_query, s, cursor);
+    let f = damage::put(seed, &mut other, &mut other_query, s, cursor);
     let lent = f.cursor;
     let reply = f.reply;
     let c = pages::Call {
         way: pages::PLAIN,
+        n: s.n,
         columns: f.columns,
         room: f.room,
         due: pages::refusal(reply),
     };
     tally::add(tally, tally::REFUSED, 1);
-    pages::compare_ways(tally, &other_tree, &other_query, c, lent, &due, lent);
+    pages::compare_ways(tally, &other, &other_query, c, lent, &due, lent);
 }
 
 // The row after which a page comes; the number of rows where the cursor is fresh.
@@ -54,7 +58,7 @@ fn row_before(s: listing::Space, cursor: model::Cursor, start: usize) -> usize {
 // One page, from a row on, with room for so many numbers.
 fn turn(
     tally: &mut tally::Tally,
-    tree: &table::Table,
+    shared: &shared::Shared,
     query: &table::Table,
     marks: &table::Cells,
     s: listing::Space,
@@ -68,6 +72,7 @@ fn turn(
     tally::add(tally, tally::ROWS, p.count as u64);
     let c = pages::Call {
         way: pages::PLAIN,
+        n: s.n,
         columns: s.columns,
         room: room,
         due: model::QuickReply {
@@ -79,7 +84,7 @@ fn turn(
         },
     };
     let after = listing::moved(s, cursor, p);
-    let moved = pages::compare_ways(tally, tree, query, c, cursor, &due, after);
+    let moved = pages::compare_ways(tally, shared, query, c, cursor, &due, after);
     Position {
         cursor: moved,
         next: p.next,
@@ -105,25 +110,25 @@ fn room_for(seed: &mut u64, s: listing::Space, most: usize) -> usize {
 fn step(
     tally: &mut tally::Tally,
     seed: &mut u64,
-    tree: &table::Table,
+    shared: &shared::Shared,
     query: &table::Table,
     marks: &table::Cells,
     s: listing::Space,
     most: usize,
     at: Position,
 ) -> Position {
-    refuse(tally, seed, tree, query, s, at.cursor);
-    refuse(tally, seed, tree, query, s, at.cursor);
+    refuse(tally, seed, shared, query, s, at.cursor);
+    refuse(tally, seed, shared, query, s, at.cursor);
     let room = room_for(seed, s, most);
     let cursor = damage::scrambled(seed, s, at.cursor);
-    turn(tally, tree, query, marks, s, room, cursor, at.next)
+    turn(tally, shared, query, marks, s, room, cursor, at.next)
 }
 
 // Pages to the end, and one after it.
 pub fn page_through(
     tally: &mut tally::Tally,
     seed: &mut u64,
-    tree: &table::Table,
+    shared: &shared::Shared,
     query: &table::Table,
     marks: &table::Cells,
     s: listing::Space,
@@ -134,10 +139,10 @@ pub fn page_through(
     let mut at = start;
     let mut i = 0;
     while i < count {
-        let next = step(tally, seed, tree, query, marks, s, most, at);
+        let next = step(tally, seed, shared, query, marks, s, most, at);
         at = next;
         if !at.more {
-            step(tally, seed, tree, query, marks, s, most, at);
+            step(tally, seed, shared, query, marks, s, most, at);
             return;
         }
         i += 1;
@@ -163,7 +168,7 @@ pub fn fresh(seed: &mut u64) -> Position {
 fn page_through_from_start(
     tally: &mut tally::Tally,
     seed: &mut u64,
-    tree: &table::Table,
+    shared: &shared::Shared,
     query: &table::Table,
     marks: &table::Cells,
     a: listing::Answers,
@@ -172,7 +177,7 @@ fn page_through_from_start(
     let end = std::num::wrapping_add_usize(a.found, 2);
     let mut most = 1;
     while most < end {
-        page_through(tally, seed, tree, query, marks, a.space, most, start);
+        page_through(tally, seed, shared, query, marks, a.space, most, start);
         most += 1;
     }
 }
@@ -181,7 +186,7 @@ fn page_through_from_start(
 pub fn page_through_from_anywhere(
     tally: &mut tally::Tally,
     seed: &mut u64,
-    tree: &table::Table,
+    shared: &shared::Shared,
     query: &table::Table,
     marks: &table::Cells,
     a: listing::Answers,
@@ -194,23 +199,50 @@ pub fn page_through_from_anywhere(
         more: true,
     };
     let most = random::between(seed, 1, std::num::wrapping_add_usize(a.found, 1));
-    page_through(tally, seed, tree, query, marks, s, most, start);
+    page_through(tally, seed, shared, query, marks, s, most, start);
 }
 
-// All pages over the answers of a query.
+// Pages from the start and from anywhere, over the answers of a query.
+fn page_all(
+    tally: &mut tally::Tally,
+    seed: &mut u64,
+    shared: &shared::Shared,
+    query: &table::Table,
+    marks: &table::Cells,
+    a: listing::Answers,
+) {
+    page_through_from_start(tally, seed, shared, query, marks, a);
+    page_through_from_anywhere(tally, seed, shared, query, marks, a);
+    page_through_from_anywhere(tally, seed, shared, query, marks, a);
+    page_through_from_anywhere(tally, seed, shared, query, marks, a);
+}
+
+// All pages over the answers of a query; and the same calls with another table of which the party sees the same tree.
 pub fn run(
     tally: &mut tally::Tally,
     seed: &mut u64,
     line: &line::Line,
     pairs: &mut evaluator::Pairs,
 ) {
+    let mut shared = [0u16; 1538];
+    let mut twin = [0u16; 1538];
     let mut tree = [0u16; 1025];
     let mut query = [0u16; 1025];
     let mut marks = [0u8; 66560];
-    let a = steer::make(seed, line, &mut tree, &mut query, pairs, &mut marks, false);
+    let a = steer::make(
+        seed,
+        line,
+        &mut shared,
+        &mut tree,
+        &mut query,
+        pairs,
+        &mut marks,
+        false,
+    );
     steer::count(tally, &query, a);
-    page_through_from_start(tally, seed, &tree, &query, &marks, a);
-    page_through_from_anywhere(tally, seed, &tree, &query, &marks, a);
-    page_through_from_anywhere(tally, seed, &tree, &query, &marks, a);
-    page_through_from_anywhere(tally, seed, &tree, &query, &marks, a);
+    seeing::count(tally, &shared);
+    owning::make_twin(seed, &tree, &shared, &mut twin);
+    let mut again = *seed;
+    page_all(tally, seed, &shared, &query, &marks, a);
+    page_all(tally, &mut again, &twin, &query, &marks, a);
 }

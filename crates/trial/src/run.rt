@@ -9,8 +9,10 @@ use super::lookups;
 use super::pages;
 use super::paging;
 use super::searches;
+use super::views;
 use harness::chains;
 use harness::line;
+use harness::shared;
 use harness::table;
 use harness::tally;
 use reference::evaluator;
@@ -25,16 +27,41 @@ fn expect(tally: &mut tally::Tally, line: &line::Line, got: model::Reply) {
     );
 }
 
-// tree NUMBER PLACE | TABLE
-fn run_tree(tally: &mut tally::Tally, tree: &mut table::Table, line: &line::Line) {
-    line::copy(line, 1, tree);
-    expect(tally, line, tree::check_tree(table::numbers(tree)));
+// The check of the present shared table, which does not judge the party; where something is refused, so is the tree that is seen.
+fn expect_table(tally: &mut tally::Tally, shared: &shared::Shared, line: &line::Line) {
+    let number = line::number(line, 0, 0);
+    let place = line::number(line, 0, 1);
+    let got = ownership::check_table(shared::numbers(shared));
+    if number == 31 {
+        tally::expect_reply(tally, got, 0, 0);
+    } else {
+        tally::expect_reply(tally, got, number, place);
+    }
+    if 0 < number {
+        views::refuse(tally, shared, 512, number, place);
+    }
+}
+
+// tree NUMBER PLACE | TABLE, or tree NUMBER PLACE PARTY | TABLE
+fn run_tree(tally: &mut tally::Tally, shared: &mut shared::Shared, line: &line::Line) {
+    let mut tree = [0u16; 1025];
+    if line::length(line, 0) < 3 {
+        line::copy(line, 1, &mut tree);
+        shared::make_common(&tree, shared);
+        expect_table(tally, shared, line);
+        return;
+    }
+    shared::copy(line, 1, shared);
+    shared::set_party(shared, line::number(line, 0, 2));
+    expect_table(tally, shared, line);
 }
 
 // chain NUMBER PLACE | COUNT AT VALUE
-fn run_chain(tally: &mut tally::Tally, tree: &mut table::Table, line: &line::Line) {
-    chains::make_chain(line, tree);
-    expect(tally, line, tree::check_tree(table::numbers(tree)));
+fn run_chain(tally: &mut tally::Tally, shared: &mut shared::Shared, line: &line::Line) {
+    let mut tree = [0u16; 1025];
+    chains::make_chain(line, &mut tree);
+    shared::make_common(&tree, shared);
+    expect_table(tally, shared, line);
 }
 
 // query NUMBER PLACE | COLUMNS | TABLE
@@ -63,17 +90,17 @@ fn run_least(tally: &mut tally::Tally, query: &mut table::Table, line: &line::Li
 // The lines that check a table.
 fn run_table(
     tally: &mut tally::Tally,
-    tree: &mut table::Table,
+    shared: &mut shared::Shared,
     query: &mut table::Table,
     line: &line::Line,
     letter: u8,
 ) {
     if letter == b't' {
-        run_tree(tally, tree, line);
+        run_tree(tally, shared, line);
         return;
     }
     if letter == b'c' {
-        run_chain(tally, tree, line);
+        run_chain(tally, shared, line);
         return;
     }
     if letter == b'q' {
@@ -89,7 +116,7 @@ fn run_table(
     }
 }
 
-// One random tree, with a query or an index, or one random table of pairs.
+// One random shared table, with a query or an index, or one random table of pairs.
 fn run_one(
     tally: &mut tally::Tally,
     seed: &mut u64,
@@ -120,11 +147,12 @@ fn run_one(
     paging::run(tally, seed, line, pairs);
 }
 
-// random SEED COUNT | LEAST MOST ENTRIES: so many trees, of LEAST to MOST nodes, and queries from a seed
+// random SEED COUNT | LEAST MOST ENTRIES: so many shared tables, of LEAST to MOST nodes, and queries from a seed
 // walks SEED COUNT | LEAST MOST ENTRIES | LEAST MOST: as random, with LEAST to MOST variables
 // kept SEED COUNT | LEAST MOST ENTRIES | LEAST MOST: the same, with queries that keep the rule of quick pages
-// searches SEED COUNT | LEAST MOST TIMES: so many trees, of LEAST to MOST nodes, and TIMES searches of every sort in each
-// joined SEED COUNT | LEAST MOST | LEAST MOST: so many trees, of LEAST to MOST nodes, and deep queries of LEAST to MOST leaves
+// searches SEED COUNT | LEAST MOST TIMES: so many shared tables, of LEAST to MOST nodes, and TIMES searches of every sort for each party
+// joined SEED COUNT | LEAST MOST | LEAST MOST: so many trees that a party sees, of LEAST to MOST nodes, and deep queries of LEAST to MOST
+// leaves
 // matrices SEED COUNT | LEAST MOST: so many tables of the pairs of LEAST to MOST nodes
 fn run_random(tally: &mut tally::Tally, line: &line::Line, letter: u8) {
     let mut pairs = [0u8; 4194304];
@@ -137,33 +165,55 @@ fn run_random(tally: &mut tally::Tally, line: &line::Line, letter: u8) {
     }
 }
 
-// The lines that call an evaluation, a page or a search on the present tables.
-fn run_call(
+// The lines that call an evaluation, a page, a search or the seen tree on the present tables, for a party.
+fn run_call_for(
     tally: &mut tally::Tally,
-    tree: &table::Table,
+    shared: &shared::Shared,
     query: &table::Table,
     line: &line::Line,
     letter: u8,
 ) {
     if (letter == call::FORWARDS) | (letter == call::BACKWARDS) | (letter == call::PAIRS) {
-        call::run(tally, tree, query, line, letter);
+        call::run(tally, shared, query, line, letter);
         return;
     }
     if letter == b'a' {
-        pages::run_answers(tally, tree, query, line);
+        pages::run_answers(tally, shared, query, line);
         return;
     }
     if letter == b'e' {
-        pages::run_effort(tally, tree, query, line);
+        pages::run_effort(tally, shared, query, line);
         return;
     }
     if letter == b'i' {
-        indexes::run(tally, tree, line);
+        indexes::run(tally, shared, line);
         return;
     }
     if letter == b'd' {
-        lookups::run(tally, tree, line);
+        lookups::run(tally, shared, line);
+        return;
     }
+    if letter == b'y' {
+        views::run(tally, shared, line);
+    }
+}
+
+// The same for the party that asks, or for each.
+fn run_call(
+    tally: &mut tally::Tally,
+    shared: &shared::Shared,
+    query: &table::Table,
+    line: &line::Line,
+    letter: u8,
+) {
+    if shared::party(shared) != shared::EACH {
+        run_call_for(tally, shared, query, line, letter);
+        return;
+    }
+    let first = shared::with_party(shared, 1);
+    let second = shared::with_party(shared, 2);
+    run_call_for(tally, &first, query, line, letter);
+    run_call_for(tally, &second, query, line, letter);
 }
 
 // A line that compares on random tables.
@@ -199,12 +249,16 @@ fn run_many(tally: &mut tally::Tally, line: &line::Line, letter: u8) {
     if letter == b'h' {
         tally::expect_kept(tally, some, of);
     }
+    if letter == b'z' {
+        tally::expect_hiding(tally, some, of);
+        tally::expect_through(tally, line::number(line, 1, 0), line::number(line, 1, 1));
+    }
 }
 
 // Runs the line that starts at a place, and answers where the next one starts.
 fn run_line(
     tally: &mut tally::Tally,
-    tree: &mut table::Table,
+    shared: &mut shared::Shared,
     query: &mut table::Table,
     text: &[u8],
     start: usize,
@@ -220,19 +274,19 @@ fn run_line(
         tally::end_part(tally, text, start, next);
         return next;
     }
-    run_table(tally, tree, query, &line, letter);
-    run_call(tally, tree, query, &line, letter);
+    run_table(tally, shared, query, &line, letter);
+    run_call(tally, shared, query, &line, letter);
     run_many(tally, &line, letter);
     next
 }
 
 pub fn run_all(text: &[u8]) {
-    let mut tally = [0u64; 64];
-    let mut tree = [0u16; 1025];
+    let mut tally = [0u64; 68];
+    let mut shared = [0u16; 1538];
     let mut query = [0u16; 1025];
     let mut at = 0;
     while at < text.len() {
-        let next = run_line(&mut tally, &mut tree, &mut query, text, at);
+        let next = run_line(&mut tally, &mut shared, &mut query, text, at);
         if next <= at {
             return;
         }

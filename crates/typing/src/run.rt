@@ -89,7 +89,7 @@ fn run_line(
 }
 
 pub fn run_all(input: &[u8]) {
-    let mut tally = [0u64; 64];
+    let mut tally = [0u64; 68];
     let mut counts = [0u64; 40];
     let mut text = [0u8; 2048];
     let mut house = [0u8; 2048];

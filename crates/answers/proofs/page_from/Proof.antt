@@ -6,8 +6,11 @@ use Rattle.answers.proofs.page_from.Tie as tie
 check-page-requires : tie.Need-check-page-requires
 check-page-requires c κs = search needs
 
+refused-requires : tie.Need-refused-requires
+refused-requires c κs = search needs
+
 returns : tie.Need-returns
-returns c = page-refused _ _ _ _ _ _ (c .before .before .check-page .ensures) (c .if1 .taken)
+returns c = search (page-refused, needs)
 
 previous-siblings-requires : tie.Need-previous-siblings-requires
 previous-siblings-requires c κs = page-tree _ _ _ _ _ _ (c .before .before .check-page .ensures) (c .if1 .left) .sound
@@ -29,6 +32,7 @@ page-from-spec =
     tie.close
     (tie.spec
     check-page-requires
+    refused-requires
     returns
     previous-siblings-requires
     slice-aggregate-write-page

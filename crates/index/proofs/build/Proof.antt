@@ -1,22 +1,22 @@
-use Rattle.model.proofs.Refusals.{written-not}
-use Rattle.index.proofs.Verdicts.{tree-tagged, tree-stops, buffers-decide, leaves-by, reply-refused}
+use Rattle.index.proofs.Verdicts.{tree-tagged, buffers-decide, leaves-by, list-most, list-many, list-front}
 use borrow.Author.Needs.{needs}
 use Rattle.index.proofs.build.Statement.{statement}
 use Rattle.index.proofs.build.Tie as tie
 
-check-tree-requires : tie.Need-check-tree-requires
-check-tree-requires c κs = search needs
+slice-aggregate-list-tags : tie.Need-slice-aggregate-list-tags
+slice-aggregate-list-tags c = search needs
 
-reply-requires : tie.Need-reply-requires
-reply-requires c κs = search needs
+list-tags-requires : tie.Need-list-tags-requires
+list-tags-requires c κs = search (tree-tagged, needs)
 
-returns : tie.Need-returns
-returns c =
-    let v = c .before .before .before .check-tree .result in
-    (search (reply-refused, tree-stops, needs), written-not v _ _ _ (search (tree-stops, needs)) (search needs), written-not v _ _ _ (search (tree-stops, needs)) (search needs))
+array-share-prefix-list : tie.Need-array-share-prefix-list
+array-share-prefix-list c = search (list-most, tree-tagged, needs)
 
-build-accepted-requires : tie.Need-build-accepted-requires
-build-accepted-requires c κs = search (tree-tagged, needs)
+slice-aggregate-fill : tie.Need-slice-aggregate-fill
+slice-aggregate-fill c = search (list-many, tree-tagged, needs)
+
+fill-requires : tie.Need-fill-requires
+fill-requires c κs = (search (tree-tagged, needs), search (list-front, needs))
 
 same-length : tie.Need-same-length
 same-length c = search needs
@@ -24,20 +24,18 @@ same-length c = search needs
 same-length-2 : tie.Need-same-length-2
 same-length-2 c = search needs
 
-returns-2 : tie.Need-returns-2
-returns-2 c =
-    leaves-by _ _ _ _ _ _ _ _
-    (buffers-decide _ _ _ (c .before .before .before .before .before .before .before .before .before .check-tree .result) (search needs) (search needs))
-    (c .before .before .before .before .build-accepted .ensures)
+returns : tie.Need-returns
+returns c = leaves-by _ _ _ _ _ _ _ _ (buffers-decide _ _ _ (search needs)) (search needs)
 
 pub build-spec : {M : Type 1} → statement M
 build-spec =
     tie.close
     (tie.spec
-    check-tree-requires
-    reply-requires
-    returns
-    build-accepted-requires
+    slice-aggregate-list-tags
+    list-tags-requires
+    array-share-prefix-list
+    slice-aggregate-fill
+    fill-requires
     same-length
     same-length-2
-    returns-2)
+    returns)

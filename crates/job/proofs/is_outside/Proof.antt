@@ -14,9 +14,6 @@ returns c = search (before-file, needs)
 span-of-requires : tie.Need-span-of-requires
 span-of-requires c κs = search needs
 
-sub-result : tie.Need-sub-result
-sub-result c = search needs
-
 mul-result : tie.Need-mul-result
 mul-result c = omega arith
 
@@ -29,4 +26,4 @@ returns-2 c = search (past-trailer, needs)
 pub is-outside-spec : {M : Type 1} → statement M
 is-outside-spec =
     tie.close
-    (tie.spec wide-requires returns span-of-requires sub-result mul-result add-result returns-2)
+    (tie.spec wide-requires returns span-of-requires mul-result add-result returns-2)

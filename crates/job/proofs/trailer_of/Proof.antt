@@ -1,45 +1,24 @@
--- Field by field.
+use Rattle.job.proofs.Files.{long-enough, size-within, trailer-at-fits, trailer-is}
 use borrow.Author.Needs.{needs}
 use Rattle.job.proofs.trailer_of.Statement.{statement}
 use Rattle.job.proofs.trailer_of.Tie as tie
 
-sub-pointer-at : tie.Need-sub-pointer-at
-sub-pointer-at c = search needs
+magic-of-requires : tie.Need-magic-of-requires
+magic-of-requires c κs = search (long-enough, needs)
 
-pointer-at-requires : tie.Need-pointer-at-requires
-pointer-at-requires c κs = search needs
+trailer-size-requires : tie.Need-trailer-size-requires
+trailer-size-requires c κs = search needs
 
-sub-pointer-at-2 : tie.Need-sub-pointer-at-2
-sub-pointer-at-2 c = search needs
+sub-trailer-at : tie.Need-sub-trailer-at
+sub-trailer-at c = search (size-within, needs)
 
-pointer-at-requires-2 : tie.Need-pointer-at-requires-2
-pointer-at-requires-2 c κs = search needs
-
-sub-number-at : tie.Need-sub-number-at
-sub-number-at c = search needs
-
-number-at-requires : tie.Need-number-at-requires
-number-at-requires c κs = search needs
-
-sub-number-at-2 : tie.Need-sub-number-at-2
-sub-number-at-2 c = search needs
-
-number-at-requires-2 : tie.Need-number-at-requires-2
-number-at-requires-2 c κs = search needs
+trailer-at-requires : tie.Need-trailer-at-requires
+trailer-at-requires c κs = search (trailer-at-fits, needs)
 
 returns : tie.Need-returns
-returns c = cc
+returns c = search (trailer-is, needs)
 
 pub trailer-of-spec : {M : Type 1} → statement M
 trailer-of-spec =
     tie.close
-    (tie.spec
-    sub-pointer-at
-    pointer-at-requires
-    sub-pointer-at-2
-    pointer-at-requires-2
-    sub-number-at
-    number-at-requires
-    sub-number-at-2
-    number-at-requires-2
-    returns)
+    (tie.spec magic-of-requires trailer-size-requires sub-trailer-at trailer-at-requires returns)

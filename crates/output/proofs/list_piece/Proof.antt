@@ -16,9 +16,6 @@ same-length c = search needs
 returns : tie.Need-returns
 returns c = file-refused _ _ (c .before .before .before .before .before .before .before .open .ensures) _ _ _ _ _ (c .before .before .refused-piece .ensures) (c .before .before .before .before .if1 .taken)
 
-wide-requires : tie.Need-wide-requires
-wide-requires c κs = search needs
-
 parts-piece-requires : tie.Need-parts-piece-requires
 parts-piece-requires c κs = search (tree-within, query-within, needs)
 
@@ -26,7 +23,7 @@ same-length-2 : tie.Need-same-length-2
 same-length-2 c = search needs
 
 returns-2 : tie.Need-returns-2
-returns-2 c = file-listed _ _ (c .before .before .before .before .before .before .before .before .before .before .open .ensures) _ _ _ _ _ _ (c .before .before .before .before .wide .ensures .0) (c .before .before .before .before .before .before .before .if1 .left) (c .before .before .parts-piece .ensures)
+returns-2 c = file-listed _ _ (c .before .before .before .before .before .before .before .open .ensures) _ _ _ _ _ (c .before .before .before .before .if1 .left) (c .before .before .parts-piece .ensures)
 
 pub list-piece-spec : {M : Type 1} → statement M
 list-piece-spec =
@@ -36,7 +33,6 @@ list-piece-spec =
     refused-piece-requires
     same-length
     returns
-    wide-requires
     parts-piece-requires
     same-length-2
     returns-2)

@@ -16,10 +16,10 @@ same-length-2 : tie.Need-same-length-2
 same-length-2 c = search needs
 
 returns : tie.Need-returns
-returns c = page-refused _ _ _ _ _ _ _ _ (c .before .before .before .before .before .before .before .before .before .page-either .ensures) (c .before .before .before .before .before .before .before .before .before .before .before .before .before .before .before .pre .1) (c .before .before .before .before .if1 .taken) _ _ _ (c .before .before .refused-piece .ensures)
+returns c = page-refused _ _ _ _ _ _ _ _ (c .before .before .before .before .before .before .before .before .before .page-either .ensures) (c .before .before .before .before .before .before .before .before .before .before .before .before .before .before .before .pre .1 .1) (c .before .before .before .before .if1 .taken) _ _ _ (c .before .before .refused-piece .ensures)
 
 row-lines-requires : tie.Need-row-lines-requires
-row-lines-requires c κs = rows-fit _ _ _ (c .before .before .before .before .before .before .before .before .before .before .before .before .before .args .at) _ _ _ _ (c .before .before .before .before .before .before .before .page-either .ensures) (c .before .before .before .before .before .before .before .before .before .before .before .before .before .pre .1) (c .before .before .if1 .left) (c .before .before .before .before .before .before .before .page-either .kept .1 .1 .1 .1 .0)
+row-lines-requires c κs = rows-fit _ _ _ (c .before .before .before .before .before .before .before .before .before .before .before .before .before .args .at) _ _ _ _ (c .before .before .before .before .before .before .before .page-either .ensures) (c .before .before .before .before .before .before .before .before .before .before .before .before .before .pre .1 .1) (c .before .before .if1 .left) (c .before .before .before .before .before .before .before .page-either .kept .1 .1 .1 .1 .0)
 
 reply-at-requires : tie.Need-reply-at-requires
 reply-at-requires c κs = search needs
@@ -34,7 +34,7 @@ same-length-4 : tie.Need-same-length-4
 same-length-4 c = search needs
 
 returns-2 : tie.Need-returns-2
-returns-2 c = page-rows _ _ _ _ _ _ _ _ (c .before .before .before .before .before .before .before .before .before .before .before .before .page-either .ensures) (c .before .before .before .before .before .before .before .before .before .before .before .before .before .before .before .before .before .before .pre .1) (c .before .before .before .before .before .before .before .if1 .left) _ _ _ _ _ (c .before .before .before .before .row-lines .ensures) (c .before .reply-at .ensures) (c .after-page .ensures)
+returns-2 c = page-rows _ _ _ _ _ _ _ _ (c .before .before .before .before .before .before .before .before .before .before .before .before .page-either .ensures) (c .before .before .before .before .before .before .before .before .before .before .before .before .before .before .before .before .before .before .pre .1 .1) (c .before .before .before .before .before .before .before .if1 .left) _ _ _ _ _ (c .before .before .before .before .row-lines .ensures) (c .before .reply-at .ensures) (c .after-page .ensures)
 
 pub page-piece-spec : {M : Type 1} → statement M
 page-piece-spec =

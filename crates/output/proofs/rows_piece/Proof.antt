@@ -14,7 +14,7 @@ slice-aggregate-page-piece : tie.Need-slice-aggregate-page-piece
 slice-aggregate-page-piece c = sym (length-take-le _ _ (array-borrow-prefix-rows (c .before)))
 
 page-piece-requires : tie.Need-page-piece-requires
-page-piece-requires c κs = (c .before .before .before .before .before .before .pre, sym (slice-aggregate-page-piece (c .before)) ∙ c .before .before .numbers-for .ensures)
+page-piece-requires c κs = (c .before .before .before .before .before .before .pre .0, (c .before .before .before .before .before .before .pre .1, sym (slice-aggregate-page-piece (c .before)) ∙ c .before .before .numbers-for .ensures))
 
 same-length : tie.Need-same-length
 same-length c = search needs

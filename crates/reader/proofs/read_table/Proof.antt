@@ -9,7 +9,7 @@ use Rattle.reader.proofs.read_table.Tie as tie
 use Rattle.reader.proofs.read_table.Reads as reads
 use Rattle.reader.proofs.read_table.Lts as lts
 use Rattle.reader.proofs.check_reading.Reads as check-reading-reads
-use Rattle.reader.proofs.copy.Reads as copy-reads
+use Rattle.model.proofs.copy.Reads as copy-reads
 use Rattle.reader.proofs.read_text.Reads as read-text-reads
 use Rattle.reader.proofs.refused.Reads as refused-reads
 

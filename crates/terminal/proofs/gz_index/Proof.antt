@@ -2,8 +2,8 @@ use borrow.Author.Needs.{needs}
 use Rattle.terminal.proofs.gz_index.Statement.{statement}
 use Rattle.terminal.proofs.gz_index.Tie as tie
 
-build-requires : tie.Need-build-requires
-build-requires c κs = search needs
+build-index-requires : tie.Need-build-index-requires
+build-index-requires c κs = search needs
 
 same-length : tie.Need-same-length
 same-length c = search needs
@@ -15,4 +15,4 @@ returns : tie.Need-returns
 returns c = search needs
 
 pub gz-index-spec : {M : Type 1} → statement M
-gz-index-spec = tie.close (tie.spec build-requires same-length same-length-2 returns)
+gz-index-spec = tie.close (tie.spec build-index-requires same-length same-length-2 returns)

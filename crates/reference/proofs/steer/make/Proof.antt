@@ -5,10 +5,10 @@ use Rattle.reference.proofs.steer.make.Statement.{statement}
 use Rattle.reference.proofs.steer.make.Tie as tie
 
 abbrev Inv-loop : tie.InvT-loop
-Inv-loop seed₀ line tree₀ query₀ pairs₀ marks₀ keeps a₀ i₀ seed tree query pairs marks a i = Unit {0}
+Inv-loop seed₀ line shared₀ tree₀ query₀ pairs₀ marks₀ keeps a₀ i₀ seed shared tree query pairs marks a i = Unit {0}
 
 abbrev μ-loop : tie.MeasureT-loop
-μ-loop seed₀ line tree₀ query₀ pairs₀ marks₀ keeps a₀ i₀ seed tree query pairs marks a i = 8 - i
+μ-loop seed₀ line shared₀ tree₀ query₀ pairs₀ marks₀ keeps a₀ i₀ seed shared tree query pairs marks a i = 8 - i
 
 make-once-requires : tie.Need-make-once-requires Inv-loop μ-loop
 make-once-requires c κs = search needs

@@ -5,10 +5,10 @@ use Rattle.trial.proofs.kept.refuse_each.Statement.{statement}
 use Rattle.trial.proofs.kept.refuse_each.Tie as tie
 
 abbrev Inv-loop : tie.InvT-loop
-Inv-loop tally₀ seed₀ tree query columns i₀ tally seed i = Unit {0}
+Inv-loop tally₀ seed₀ shared query columns i₀ tally seed i = Unit {0}
 
 abbrev μ-loop : tie.MeasureT-loop
-μ-loop tally₀ seed₀ tree query columns i₀ tally seed i = 6 - i
+μ-loop tally₀ seed₀ shared query columns i₀ tally seed i = 6 - i
 
 loop-holds : tie.Need-loop-holds Inv-loop μ-loop
 loop-holds c = search needs

@@ -5,10 +5,10 @@ use Rattle.trial.proofs.paging.page_through.Statement.{statement}
 use Rattle.trial.proofs.paging.page_through.Tie as tie
 
 abbrev Inv-loop : tie.InvT-loop
-Inv-loop tally₀ seed₀ tree query marks s most count at₀ i₀ tally seed at i = Unit {0}
+Inv-loop tally₀ seed₀ shared query marks s most count at₀ i₀ tally seed at i = Unit {0}
 
 abbrev μ-loop : tie.MeasureT-loop
-μ-loop tally₀ seed₀ tree query marks s most count at₀ i₀ tally seed at i = count - i
+μ-loop tally₀ seed₀ shared query marks s most count at₀ i₀ tally seed at i = count - i
 
 loop-holds : tie.Need-loop-holds Inv-loop μ-loop
 loop-holds c = search needs

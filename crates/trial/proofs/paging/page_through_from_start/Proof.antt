@@ -5,10 +5,10 @@ use Rattle.trial.proofs.paging.page_through_from_start.Statement.{state
 use Rattle.trial.proofs.paging.page_through_from_start.Tie as tie
 
 abbrev Inv-loop : tie.InvT-loop
-Inv-loop tally₀ seed₀ tree query marks a start end most₀ tally seed most = Unit {0}
+Inv-loop tally₀ seed₀ shared query marks a start end most₀ tally seed most = Unit {0}
 
 abbrev μ-loop : tie.MeasureT-loop
-μ-loop tally₀ seed₀ tree query marks a start end most₀ tally seed most = end - most
+μ-loop tally₀ seed₀ shared query marks a start end most₀ tally seed most = end - most
 
 fresh-requires : tie.Need-fresh-requires Inv-loop μ-loop
 fresh-requires c κs = search needs

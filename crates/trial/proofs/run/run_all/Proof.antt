@@ -6,10 +6,10 @@ use Rattle.trial.proofs.run.run_all.Statement.{statement}
 use Rattle.trial.proofs.run.run_all.Tie as tie
 
 abbrev Inv-loop : tie.InvT-loop
-Inv-loop text tally₀ tree₀ query₀ at₀ tally tree query at = Unit {0}
+Inv-loop text tally₀ shared₀ query₀ at₀ tally shared query at = Unit {0}
 
 abbrev μ-loop : tie.MeasureT-loop
-μ-loop text tally₀ tree₀ query₀ at₀ tally tree query at = length text - at
+μ-loop text tally₀ shared₀ query₀ at₀ tally shared query at = length text - at
 
 loop-holds : tie.Need-loop-holds Inv-loop μ-loop
 loop-holds c = search needs

@@ -5,10 +5,10 @@ use Rattle.trial.proofs.searches.search_often.Statement.{statement}
 use Rattle.trial.proofs.searches.search_often.Tie as tie
 
 abbrev Inv-loop : tie.InvT-loop
-Inv-loop tally₀ seed₀ tree next times i₀ tally seed i = Unit {0}
+Inv-loop tally₀ seed₀ shared tree next times i₀ tally seed i = Unit {0}
 
 abbrev μ-loop : tie.MeasureT-loop
-μ-loop tally₀ seed₀ tree next times i₀ tally seed i = times - i
+μ-loop tally₀ seed₀ shared tree next times i₀ tally seed i = times - i
 
 loop-holds : tie.Need-loop-holds Inv-loop μ-loop
 loop-holds c = search needs

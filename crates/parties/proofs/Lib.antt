@@ -1,0 +1,3 @@
+pub mod Over
+pub mod Isolation
+pub mod Meets
