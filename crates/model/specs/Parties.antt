@@ -34,6 +34,7 @@ sharedChecks t = treeChecksAt 3 t ++ (refuseAt 30 (length t / 3) (badOwner t) �
 abbrev pub badParty : ℕ → Bool
 badParty party = eqb party 0 || ltb 2 party
 
+-- the check of the party
 unfoldable pub partyChecks : ℕ → List Check
 partyChecks party = refuse 31 (badParty party) ∷ []
 
