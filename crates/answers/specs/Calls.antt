@@ -28,6 +28,7 @@ pub record Listing : Type 0 where
   pub query : List ℕ
   pub columns : ℕ
 
+-- the listing of what a call is lent
 abbrev pub listingOf : Lent → Listing
 listingOf l = record { tree = seenTable (l .tree) (l .party); query = l .query; columns = l .columns }
 

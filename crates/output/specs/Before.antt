@@ -1,5 +1,5 @@
 -- What the program printed before files had owners and parties (document 02, §8), for one theorem alone: a file of old prints what it
--- printed (proofs/Before.antt: printed-as-before). The text is that of the definitions then.
+-- printed (proofs/Before.antt: printed-as-before). It says what the definitions said then, with the trailer's places counted from its start.
 use Prim.Native.Nat.{ℕ, _+_, _-_}
 use mathlib.Core.Bool.{not, _||_, cond}
 use mathlib.Core.List.{List, _∷_, _++_}
@@ -21,13 +21,15 @@ startBefore file = length file - 12
 abbrev pub partBefore : List ℕ → ℕ → List ℕ
 partBefore file at = numbers file (spanOf (length file) (pointerAt file at) .start) (pointerAt file at .count)
 
--- the tree table, of two numbers a node, the query table, and the number of variables
+-- the tree table, of two numbers a node
 abbrev pub treeBefore : List ℕ → List ℕ
 treeBefore file = partBefore file (startBefore file)
 
+-- the query table
 abbrev pub queryBefore : List ℕ → List ℕ
 queryBefore file = partBefore file (startBefore file + 4)
 
+-- the number of variables (document 01: the column count)
 abbrev pub columnsBefore : List ℕ → ℕ
 columnsBefore file = numberAt file (startBefore file + 8)
 
@@ -43,6 +45,7 @@ abbrev pub verdictBefore : List ℕ → Reply
 verdictBefore file =
     verdict (fileChecksBefore file ++ (treeChecks (treeBefore file) ++ queryChecks (queryBefore file) 1 (columnsBefore file)))
 
+-- the answers (document 01: the pick list)
 abbrev pub answersBefore : List ℕ → List Row
 answersBefore file = answers (treeBefore file) (queryBefore file) (columnsBefore file)
 
