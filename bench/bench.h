@@ -11,10 +11,10 @@ static inline double now(void)
     return t.tv_sec * 1e9 + t.tv_nsec;
 }
 
-/* A query as text, for engines that compile it, and as a table; reached has, for each start node x and each node y at
-   x * n + y, whether y is reached from x. It is timed from one start. */
+/* A query as text, in XPath 1.0 for the engines that compile it (NULL where that has no words for it), and as a table; reached has, for
+   each start node x and each node y at x * n + y, whether y is reached from x. It is timed from one start. */
 struct query {
-    const char *text;
+    const char *text, *xpath;
     const uint16_t *table;
     size_t length;
     const uint8_t *reached;

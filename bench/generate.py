@@ -27,8 +27,8 @@ def join(kind, *operands):
     return entries + [(kind, last[0], last[1] if len(last) > 1 else 0, 0)]
 
 
-LEFT = (1, 2, 3, 4, 5, 7, 8, 9, 10, 11)
-RIGHT = (1, 2, 3, 4, 5, 10, 11)
+LEFT = (1, 2, 3, 4, 5, 7, 8, 9, 10, 11, 13, 14)
+RIGHT = (1, 2, 3, 4, 5, 10, 11, 14)
 
 
 def step(axis, tag=65535):
@@ -79,36 +79,56 @@ def without(a, b):
     return join(4, a, b)
 
 
+def star(p):
+    return join(13, p)
+
+
+def same(a, b):
+    return join(14, a, b)
+
+
 ANY, ANY_NODE = step("descendant-or-self"), step("descendant-or-self", 65534)
+DOT = step("self", 65534)
+ALIKE, NO_WORDS = "alike", None
+
+
+def meet(a, b):
+    """In XPath 1.0: two paths lead to one node."""
+    return "count(%s | %s) < count(%s) + count(%s)" % (a, b, a, b)
+
+
+# What is timed: a query, how XPath 1.0 writes it, which has neither intersect nor except, star nor same, and its entries.
 QUERIES = [
-    ("descendant::t2[child::t3 and not(following-sibling::*)]",
+    ("descendant::t2[child::t3 and not(following-sibling::*)]", ALIKE,
      only(step("descendant", 2), both(some(step("child", 3)), no(some(step("following-sibling")))))),
-    ("/descendant-or-self::*/child::t3/following::t2",
+    ("/descendant-or-self::*/child::t3/following::t2", ALIKE,
      root(path(ANY, step("child", 3), step("following", 2)))),
-    ("/descendant-or-self::node()/child::t3/following::t2",
+    ("/descendant-or-self::node()/child::t3/following::t2", ALIKE,
      root(path(ANY_NODE, step("child", 3), step("following", 2)))),
-    ("/descendant-or-self::*/child::t2/preceding::t3",
+    ("/descendant-or-self::*/child::t2/preceding::t3", ALIKE,
      root(path(ANY, step("child", 2), step("preceding", 3)))),
-    ("child::*/descendant::*",
+    ("child::*/descendant::*", ALIKE,
      path(step("child"), step("descendant"))),
-    ("descendant::t2[child::t3]/child::t3",
+    ("descendant::t2[child::t3]/child::t3", ALIKE,
      path(only(step("descendant", 2), some(step("child", 3))), step("child", 3))),
-    ("descendant::*[self::t1 or self::t2][descendant::t3[not(child::*)]]",
+    ("descendant::*[self::t1 or self::t2][descendant::t3[not(child::*)]]", ALIKE,
      only(only(step("descendant"), either(some(step("self", 1)), some(step("self", 2)))),
           some(only(step("descendant", 3), no(some(step("child"))))))),
-    ("/descendant-or-self::*/child::t5[not(ancestor::t6)]/following-sibling::t1",
+    ("/descendant-or-self::*/child::t5[not(ancestor::t6)]/following-sibling::t1", ALIKE,
      root(path(ANY, only(step("child", 5), no(some(step("ancestor", 6)))), step("following-sibling", 1)))),
+    ("(child::*)*", "descendant-or-self::node()",
+     star(step("child"))),
+    ("descendant::*[child::* same descendant::t3]", "descendant::*[%s]" % meet("child::*", "descendant::t3"),
+     only(step("descendant"), same(step("child"), step("descendant", 3)))),
 ]
 
 
-SAME = "the same"
-NO_WORDS = None
-# What is timed for all pairs: a query, how XPath 1.0 writes it (it has neither intersect nor except), and its entries.
+# The same for all pairs.
 RELATIONS = [
-    ("child::*/descendant::t2/following::*/child::t3", SAME,
+    ("child::*/descendant::t2/following::*/child::t3", ALIKE,
      path(step("child"), step("descendant", 2), step("following"), step("child", 3))),
-    (".//child::t6[child::*]//child::t5", SAME,
-     path(step("self", 65534), ANY_NODE, only(step("child", 6), some(step("child"))), ANY_NODE, step("child", 5))),
+    (".//child::t6[child::*]//child::t5", ALIKE,
+     path(DOT, ANY_NODE, only(step("child", 6), some(step("child"))), ANY_NODE, step("child", 5))),
     ("descendant::* intersect following::t2/preceding::* except child::*", NO_WORDS,
      without(intersect(step("descendant"), path(step("following", 2), step("preceding"))), step("child"))),
     ("child::*/(descendant::* intersect child::*/(descendant::* except child::t2))", NO_WORDS,
@@ -119,12 +139,18 @@ RELATIONS = [
      path(union(step("following"), step("preceding")), step("following"))),
     ("(descendant::t2/following::*)[child::t3 or not(left::*)]", "(descendant::t2/following::*)[child::t3 or not(preceding-sibling::*)]",
      only(path(step("descendant", 2), step("following")), either(some(step("child", 3)), no(some(step("left")))))),
-] + [(axis + "::*", {"right": "following-sibling::*[1]", "left": "preceding-sibling::*[1]"}.get(axis, SAME), step(axis)) for axis in AXES]
+    ("(child::*)*", "descendant-or-self::node()",
+     star(step("child"))),
+    ("(child::* union right::*)*", "(self::node() | following-sibling::*)/descendant-or-self::node()",
+     star(union(step("child"), step("right")))),
+    (".[child::* same descendant::t3]", "self::node()[%s]" % meet("child::*", "descendant::t3"),
+     only(DOT, same(step("child"), step("descendant", 3)))),
+] + [(axis + "::*", {"right": "following-sibling::*[1]", "left": "preceding-sibling::*[1]"}.get(axis, ALIKE), step(axis)) for axis in AXES]
 
 
 def search(start, tag):
     """The descendants of a node that have a tag."""
-    return "descendant::t%d" % tag, step("descendant", tag), start
+    return "descendant::t%d" % tag, ALIKE, step("descendant", tag), start
 
 
 def searches(table):
@@ -205,20 +231,14 @@ def array(kind, name, numbers):
 def query_array(name, tree, queries):
     """An array of queries, each with its start, and the tables that it names."""
     text, rows, n = "", [], tree.n
-    for k, (xpath, entries, start) in enumerate(queries):
+    for k, (ours, theirs, entries, start) in enumerate(queries):
+        xpath = '"%s"' % (ours if theirs is ALIKE else theirs) if theirs else "NULL"
         numbers = [number for entry in entries for number in entry]
         reached = relation(tree, numbers)
         text += array("uint16_t", "%s_table%d" % (name, k), numbers)
         text += array("uint8_t", "%s_reached%d" % (name, k), [reached[x] >> y & 1 for x in range(n) for y in range(n)])
-        rows.append('    {"%s", %s_table%d, %d, %s_reached%d, %d},\n' % (xpath, name, k, len(numbers), name, k, start))
+        rows.append('    {"%s", %s, %s_table%d, %d, %s_reached%d, %d},\n' % (ours, xpath, name, k, len(numbers), name, k, start))
     return text + "static const struct query %s[] = {\n%s};\n" % (name, "".join(rows))
-
-
-def relation_array(tree):
-    """The queries whose pairs are all asked for, and the tables that they name."""
-    text = query_array("whole", tree, [(ours, entries, 0) for ours, _, entries in RELATIONS])
-    theirs = [ours if xpath is SAME else xpath for ours, xpath, _ in RELATIONS]
-    return text + "static const char *const whole_xpath[] = {%s};\n" % ", ".join('"%s"' % t if t else "NULL" for t in theirs)
 
 
 def header(table):
@@ -227,8 +247,8 @@ def header(table):
     half = shared(table, halved(table))
     text += array("uint16_t", "halved", half) + array("uint16_t", "due_seen", seen(half, 1))
     text += array("uint16_t", "due_next", due_next) + array("uint16_t", "due_tags", due_tags)
-    text += query_array("queries", tree, [(xpath, entries, 0) for xpath, entries in QUERIES])
-    return text + query_array("searches", tree, searches(table)) + relation_array(tree)
+    text += query_array("queries", tree, [(*query, 0) for query in QUERIES]) + query_array("searches", tree, searches(table))
+    return text + query_array("whole", tree, [(*query, 0) for query in RELATIONS])
 
 
 different = sys.argv[1] == "--different"

@@ -36,7 +36,7 @@ static void open_document(const char *xml, const uint16_t *tree, size_t n)
 static void compile(const struct query *query)
 {
     xmlXPathFreeCompExpr(compiled);
-    compiled = xmlXPathCompile((const xmlChar *)query->text);
+    compiled = xmlXPathCompile((const xmlChar *)query->xpath);
     if (!compiled)
         give_up("libxml2 refuses a query");
 }

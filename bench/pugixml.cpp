@@ -31,7 +31,7 @@ static void open_document(const char *xml, const uint16_t *, size_t n)
 
 static void compile(const struct query *query)
 {
-    compiled.reset(new pugi::xpath_query(query->text));
+    compiled.reset(new pugi::xpath_query(query->xpath));
     if (!*compiled)
         give_up("pugixml refuses a query");
 }

@@ -111,11 +111,9 @@ static void measure(void (*const *ways)(void), size_t count, double *best)
             }
 }
 
-static void compare_peer(const struct engine *engine, const char *xpath)
+static void compare_peer(const struct engine *engine)
 {
-    struct query query = *current;
-    query.text = xpath;
-    engine->compile(&query);
+    engine->compile(current);
     for (size_t start = 0; start < NODES; start++) {
         uint8_t set[256] = {0};
         engine->call(start);
@@ -136,9 +134,9 @@ static size_t choose(const struct query *query)
     return pairs;
 }
 
-static void time_query(const struct query *query, const char *xpath)
+static void time_query(const struct query *query)
 {
-    void (*const ways[WAYS])(void) = {in_bits, in_bytes, xpath ? libxml2 : NULL, xpath ? pugixml : NULL};
+    void (*const ways[WAYS])(void) = {in_bits, in_bytes, query->xpath ? libxml2 : NULL, query->xpath ? pugixml : NULL};
     double best[WAYS];
     size_t pairs = choose(query);
     memset(words, 7, sizeof words);
@@ -146,8 +144,8 @@ static void time_query(const struct query *query, const char *xpath)
     same(memcmp(words, due, sizeof due) == 0, "gz_pairs_bits");
     in_bytes();
     same(memcmp(cells, query->reached, sizeof cells) == 0, "gz_pairs");
-    for (size_t i = 0; xpath && i < LENGTH(peers); i++)
-        compare_peer(peers[i], xpath);
+    for (size_t i = 0; query->xpath && i < LENGTH(peers); i++)
+        compare_peer(peers[i]);
     measure(ways, WAYS, best);
     printf("| `%s` | %zu | %.1f", query->text, pairs, best[0]);
     for (size_t i = 1; i < WAYS; i++)
@@ -187,7 +185,7 @@ int main(int argc, char **argv)
     }
     printf(" |\n|---|---:|---:|---:|---:|---:|---:|---:|---:|\n");
     for (size_t k = 0; k < LENGTH(whole); k++)
-        time_query(&whole[k], whole_xpath[k]);
+        time_query(&whole[k]);
     printf("\n| relation, %d nodes | pairs | gz_pack, µs | plain C, µs | ratio | gz_unpack, µs | plain C, µs | ratio |\n", NODES);
     printf("|---|---:|---:|---:|---:|---:|---:|---:|\n");
     for (size_t k = 0; k < LENGTH(whole); k++)

@@ -4,13 +4,13 @@ import os
 import struct
 
 ROOT_PARENT, ANY = 65535, 65535
-HALL, BAY, PALLET, AISLE, DAMAGE = 1, 2, 3, 4, 5
+HALL, BAY, PALLET, AISLE, DAMAGE, CONTAINER = 1, 2, 3, 4, 5, 6
 
 # axes
-SELF, CHILD, DESCENDANT, FOLLOWING_SIBLING = 0, 1, 5, 9
+SELF, CHILD, PARENT, DESCENDANT, FOLLOWING_SIBLING = 0, 1, 2, 5, 9
 
 # kinds of entries
-STEP, COMPOSE, UNION, INTERSECT, EXCEPT, FILTER, SOME, IS = 0, 1, 2, 3, 4, 5, 8, 12
+STEP, COMPOSE, UNION, INTERSECT, EXCEPT, FILTER, SOME, IS, STAR, SAME = 0, 1, 2, 3, 4, 5, 8, 12, 13, 14
 
 
 def packed(numbers):
@@ -127,6 +127,41 @@ PLACES = entries(
 # Two aisles: 13 nodes.
 SMALL = table((HALL, aisle("pd", "p"), aisle("dp")))
 
+# Pallets that stand on pallets, and pallets in containers, which stand on a pallet or in a bay: 13 nodes.
+#   0 hall   1 bay   2, 3 on 2, 4 on 3   5, container 6 on 5, 7 in 6   8 bay   container 9, 10 in 9   11, 12 on 11
+STACKS = table((
+    HALL,
+    (BAY, (PALLET, (PALLET, (PALLET,))), (PALLET, (CONTAINER, (PALLET,)))),
+    (BAY, (CONTAINER, (PALLET,)), (PALLET, (PALLET,))),
+))
+
+# descendant::bay[. is $0]/child::pallet/(child::pallet)*[. is $1]: down through pallets only
+THROUGH_PALLETS = entries(
+    (STEP, DESCENDANT, 0, BAY),
+    (IS, 0, 0, 0),
+    (FILTER, 0, 1, 0),
+    (STEP, CHILD, 0, PALLET),
+    (COMPOSE, 2, 3, 0),
+    (STEP, CHILD, 0, PALLET),
+    (STAR, 5, 0, 0),
+    (IS, 1, 0, 0),
+    (FILTER, 6, 7, 0),
+    (COMPOSE, 4, 8, 0),
+)
+
+# descendant::bay[child::pallet same descendant::container/parent::*][. is $0]: a pallet of the bay carries a container
+CARRIES_CONTAINER = entries(
+    (STEP, DESCENDANT, 0, BAY),
+    (STEP, CHILD, 0, PALLET),
+    (STEP, DESCENDANT, 0, CONTAINER),
+    (STEP, PARENT, 0, ANY),
+    (COMPOSE, 2, 3, 0),
+    (SAME, 1, 4, 0),
+    (FILTER, 0, 5, 0),
+    (IS, 0, 0, 0),
+    (FILTER, 6, 7, 0),
+)
+
 # Node 1 says that it is its own parent.
 OWN_PARENT = [ROOT_PARENT, HALL, 1, BAY, 1, PALLET]
 
@@ -147,6 +182,8 @@ JOBS = {
     "refused": (OWN_PARENT, BAYS_AND_PALLETS, 2),
     "aisles": (AISLES, SOUND_AND_NOT_LAST, 2),
     "places": (SMALL, PLACES, 3),
+    "stacks": (STACKS, THROUGH_PALLETS, 2),
+    "carriers": (STACKS, CARRIES_CONTAINER, 1),
     "firm-one": (TWO_FIRMS, BAYS_AND_PALLETS, 2, 1),
     "firm-two": (TWO_FIRMS, BAYS_AND_PALLETS, 2, 2),
     "firm-three": (TWO_FIRMS, BAYS_AND_PALLETS, 2, 3),

@@ -1,7 +1,7 @@
 /*
  * Geznauri: queries over small trees, for C.
  *
- * The engine answers Core XPath queries with intersect, except and node variables over trees of up to 256 nodes. Trees and
+ * The engine answers Core XPath queries with intersect, except, stars of paths and node variables over trees of up to 256 nodes. Trees and
  * queries are lent to it as tables of 16-bit numbers, and gz_read makes the table of a query that is typed. Two parties may share one
  * tree table: each sees its own nodes and the common ones, as a tree by themselves, and a call is made for one of the two. gz_index makes
  * the index of a tree, by which gz_descendants finds the descendants with a tag. All pairs of a query are given a byte a pair by gz_pairs,
@@ -13,7 +13,7 @@
  *     cc -I include program.c target/staticlib/libterminal.a
  *
  * The archive defines the functions of section 11 and no other global symbol. It needs two functions of the C library, which
- * compilers call of their own accord: memcpy, memset. It has less than 80 KiB of code and constants, and has no variables.
+ * compilers call of their own accord: memcpy, memset. It has less than 84 KiB of code and constants, and has no variables.
  *
  * Contents:  1 For every call   2 Tree table and parties   3 Query table   4 Node sets and relations   5 Answers, pages, cursors
  *            6 Name tables   7 Typed queries   8 Indexes   9 Numbers of refusal   10 Types   11 Functions
@@ -36,12 +36,12 @@
  * Threads. No function keeps anything between calls, and there is no global state: calls may run at the same time on any
  * number of threads, with the same tables too, so long as each has its own buffers and cursor.
  *
- * Stack. gz_check_tree, gz_check_query and gz_name take less than 1 KiB; gz_seen, gz_index, gz_descendants, gz_pack, gz_unpack and
- * gz_read, however deep its text nests, take less than 4 KiB. gz_pairs_bits takes less than 56 KiB for every query, so that its stack and
- * a relation of 256 nodes in bits, 8 KiB, take less than the 64 KiB of one in bytes; the worst shape that was measured takes 49,344
- * bytes, and a run of steps less than 16 KiB. The others take less than 9 KiB for a query of one level, gz_quick_page less than 13 KiB,
- * and all less than 4 KiB for each further level of its nesting (section 3); there are 64 levels at most, so that no call takes 265 KiB.
- * Every call that is told a party keeps the seen tree on its stack, 1 KiB of these.
+ * Stack. gz_check_tree, gz_check_query and gz_name take less than 1 KiB; gz_seen, gz_index, gz_descendants, gz_pack, gz_unpack and gz_read,
+ * however deep its text nests, take less than 4 KiB. gz_pairs_bits takes less than 56 KiB for every query, so that its stack and a relation
+ * of 256 nodes in bits, 8 KiB, take less than the 64 KiB of one in bytes; the worst shape that was measured takes 52,992 bytes, a run of
+ * steps, however it is grouped, less than 17 KiB, and a step less than 4 KiB. The others take less than 9 KiB for a query of one level,
+ * gz_quick_page less than 13 KiB, and all less than 4 KiB for each further level of its nesting (section 3); there are 64 levels at most,
+ * so that no call takes 265 KiB. Every call that is told a party keeps the seen tree on its stack, 1 KiB of these.
  *
  * Everything is counted from 0. Numbers of tables are in the machine's own byte order.
  *
@@ -96,8 +96,8 @@
  * query_len is four times their number. The last entry is the query. Beside the table a call is told the number of
  * variables, `columns`, 0 to 3; variables are numbered from 0, and an assignment gives each one node.
  *
- * An entry is a path (kinds 0 to 7), a set of pairs (x, y) of nodes, read 'from x to y'; or a node expression (kinds 8 to
- * 12), which holds at a node x or does not. 'path' and 'expr' below are operands: numbers of earlier entries of that sort.
+ * An entry is a path (kinds 0 to 7, and 13), a set of pairs (x, y) of nodes, read 'from x to y'; or a node expression (kinds 8 to
+ * 12, and 14), which holds at a node x or does not. 'path' and 'expr' below are operands: numbers of earlier entries of that sort.
  * Every entry but the last is an operand exactly once. A field with a dash must be 0.
  *
  * Levels of nesting: an entry without operands (kinds 0, 6 and 12) has one level, and every other entry has one level more than
@@ -117,6 +117,8 @@
  *     10  and             expr       expr    -       left and right hold at x
  *     11  or              expr       expr    -       left or right holds at x
  *     12  is              variable   -       -       x is the variable's node
+ *     13  star of a path  path       -       -       y is x, or is reached from x by pairs of left, one after the other
+ *     14  same            path       path    -       for some y, (x, y) is in left and in right
  *
  * A step's test is a tag, 0 to 65533, which passes the nodes with that tag; or 65534, node(), which passes every node; or 65535,
  * the star, which passes every node but a document node.
@@ -195,10 +197,11 @@
  * so. That is exact for the queries that keep this rule, and it refuses the others (29), which gz_page takes:
  *
  *     no variable stands in both operands of a compose, of a filter, or of an and;
- *     no variable stands under an intersect, an except, or a not.
+ *     no variable stands under an intersect, an except, a not, a star of a path, or a same.
  *
- * A variable may stand in both operands of a union or of an or, and intersect, except and not may stand where no variable is under them.
- * The bays with their pallets keep the rule; .[. is $0]/self::2[. is $0], $0 intersect self::2 and self::2[not(. is $0)] do not.
+ * A variable may stand in both operands of a union or of an or, and intersect, except, not, stars and same may stand where no variable is
+ * under them. The bays with their pallets keep the rule; .[. is $0]/self::2[. is $0], $0 intersect self::2, self::2[not(. is $0)],
+ * (child::2[. is $0])* and .[child::3 same $0] do not.
  *
  * Rows, cursor, count and more are those of gz_page, whatever the cursor and the buffer, so that calls of either may follow calls of the
  * other over one cursor. Beside them stands how many evaluations of the query were made. A call finds the first answer, or the first
@@ -231,15 +234,15 @@
  *     Intersection = Run { ( " intersect " | " except " ) Run }
  *     Run          = [ "/" | "//" ] Step { ( "/" | "//" ) Step }
  *     Step         = Primary { "[" Test "]" }
- *     Primary      = axis "::" ( "*" | "node()" | name ) | "." | ".." | "$0" | "$1" | "$2" | "(" Path ")"
+ *     Primary      = axis "::" ( "*" | "node()" | name ) | "." | ".." | "$0" | "$1" | "$2" | "(" Path ")" [ "*" ]
  *     Test         = Conjunction { " or " Conjunction }
  *     Conjunction  = Unit { " and " Unit }
- *     Unit         = Path | "not(" Test ")" | ". is $0" | ". is $1" | ". is $2" | "(" Test ")"
+ *     Unit         = Path | Path " same " Path | "not(" Test ")" | ". is $0" | ". is $1" | ". is $2" | "(" Test ")"
  *     axis         = an axis of section 3, written out
  *     name         = one or more ASCII letters, digits, "-" and "_"
  *
  * What is repeated groups leftwards, and a bracket that holds a whole Path is a Path, so that a text has one reading at most.
- * Word operators and `is` have one space on each side, and there is no other space.
+ * Word operators, same and `is` among them, have one space on each side, and there is no other space.
  *
  *     typed           stands for                                                       kind
  *     axis::name      a step, with the lowest tag that has the name                     0
@@ -255,6 +258,8 @@
  *                     descendant-or-self::node() before its first step
  *     a as a Unit     some                                                              8
  *     not(t), and, or, . is $0                                                          9, 10, 11, 12
+ *     (a)*            the star of a: the bracket is due                                 13
+ *     a same b        same: a and b lead to one node                                    14
  *     (a)   (t)       what it holds: a bracket makes no entry
  *
  * An entry stands behind its operands, and the left operand's entries stand before the right's. The number of variables is one
@@ -267,6 +272,7 @@
  *     child::bay[child::pallet      24 at 24, the length: the text is not finished
  *     child::bay or self::*         24 at 11: the space may begin union, intersect or except, but or joins tests
  *     child::bay/ child::pallet     24 at 11: no space stands beside a slash
+ *     .[(child::bay or .)*]         24 at 19: a star stands behind a bracket that holds a path, and this one holds a test
  *     child::shelf                  25 at 7: no tag has the name
  *
  *
@@ -320,7 +326,7 @@
  *       8       the query table is empty, its length no multiple of four, or longer         0
  *               than 256 numbers
  *       9       columns is above 3, or is 0 for gz_page or gz_quick_page                    0
- *      10       an entry's kind is above 12                                                 the entry
+ *      10       an entry's kind is above 14                                                 the entry
  *      11       a step's axis is above 12, a variable is not below columns, or a field      the entry
  *               that must be 0 is not
  *      12       an operand is not below its own entry's number                              the entry that has it
@@ -351,7 +357,7 @@
  *               node at which it is read, not below n, or of another tag                    is read
  *      28       a bit of the relation at or beyond n is set                                 the row
  *      29       a variable stands in both operands of a compose, a filter or an and, or     the lowest such entry
- *               under an intersect, an except or a not
+ *               under an intersect, an except, a not, a star of a path or a same
  *      36       the start is not below n                                                    0
  *
  * Numbers 1 to 4 are of job files, which no function here reads; the program picklist does. A job has the numbers of a call of gz_page: a
@@ -368,7 +374,7 @@
 /* The version of this header and of the archive that it describes. GZ_VERSION_MAJOR is counted up, and MINOR set to 0, where a
    program that was written to the header before may break: another reply to the same call, a refusal of what was accepted or the
    reverse, another type, size or name. GZ_VERSION_MINOR is counted up where something is added and all else is as it was. */
-#define GZ_VERSION_MAJOR 4
+#define GZ_VERSION_MAJOR 5
 #define GZ_VERSION_MINOR 0
 
 #ifdef __cplusplus
@@ -461,9 +467,10 @@ gz_reply gz_check_query(const uint16_t *query, size_t query_len, uint16_t column
    8 to 20.
    Accepted, the first n bytes of `to` are the image, all later bytes are as they were, and count is the number of nodes in the
    image, 0 to n; refused, all of `to` is as it was.
-   A query without intersect and except takes time in proportion to its entries times n, however it nests; intersect and
-   except evaluate their operands once for each start node; where one stands inside an operand of another, behind a
-   composition or in a filter, each such one takes up to n times as long. */
+   A query without intersect, except, same and stars of paths takes time in proportion to its entries times n, however it nests;
+   intersect, except and same evaluate their operands once for each start node, and a star evaluates its operand until no new node is
+   reached, at most n times; where one of the four stands inside an operand of another, behind a composition or in a filter, each such
+   one takes up to n times as long. */
 gz_image_reply gz_forwards(const uint16_t *tree, size_t tree_len, uint16_t party, const uint16_t *query, size_t query_len,
                            uint16_t columns, const uint16_t *nodes, size_t nodes_len, const uint8_t *from, size_t from_len, uint8_t *to,
                            size_t to_len);
@@ -482,7 +489,7 @@ gz_reply gz_pairs(const uint16_t *tree, size_t tree_len, uint16_t party, const u
 /* The same pairs in bits. words_len is 4 n or more; 1,024 words have room for every tree's. Refusals as of gz_pairs.
    Accepted, the first 4 n words of `words` are the relation, the pair (x, y) as bit y % 64 of word 4 x + y / 64, and all later words
    are as they were; refused, all of `words` is. Whole tables are combined: a step takes time in proportion to n, and a composition of
-   two paths that are no steps at most n * n, however the query nests. */
+   two paths that are no steps, or a star of a path, at most n * n, however the query nests. */
 gz_reply gz_pairs_bits(const uint16_t *tree, size_t tree_len, uint16_t party, const uint16_t *query, size_t query_len, uint16_t columns,
                        const uint16_t *nodes, size_t nodes_len, uint64_t *words, size_t words_len);
 

@@ -24,8 +24,8 @@ _Static_assert(offsetof(gz_index_reply, next) == 8 && offsetof(gz_index_reply, t
 _Static_assert(sizeof(gz_cursor) == 8 && offsetof(gz_cursor, begun) == 0 && offsetof(gz_cursor, last) == 2, "gz_cursor");
 _Static_assert(sizeof(gz_part) == 16 && offsetof(gz_part, start) == 0 && offsetof(gz_part, length) == 8, "gz_part");
 _Static_assert(sizeof(bool) == 1 && sizeof(size_t) == 8, "bool and size_t");
-#if GZ_VERSION_MAJOR != 4
-#error "this program is written to version 4.0 of the header"
+#if GZ_VERSION_MAJOR != 5
+#error "this program is written to version 5.0 of the header"
 #endif
 
 #define PATTERN 0xA5
@@ -34,6 +34,16 @@ _Static_assert(sizeof(bool) == 1 && sizeof(size_t) == 8, "bool and size_t");
 #define SLICE(a) a, LENGTH(a)
 #define NUMBERS(...) (const uint16_t[]){__VA_ARGS__}, sizeof((const uint16_t[]){__VA_ARGS__}) / sizeof(uint16_t)
 #define NOTHING NULL, 0
+
+/* Entries of no, one and two operands. */
+#define STEP(axis, tag) 0, axis, 0, tag
+#define STAR 65535
+#define ANY_NODE 65534
+#define SELF STEP(0, ANY_NODE)
+#define PARENT STEP(2, ANY_NODE)
+#define BELOW STEP(11, ANY_NODE)
+#define ONE(kind, left) kind, left, 0, 0
+#define TWO(kind, left, right) kind, left, right, 0
 
 static int tried, failed;
 
@@ -54,6 +64,9 @@ static const uint16_t document[] = {65535, 65534, 0, 1, 1, 2, 2, 3, 2, 3, 1, 2, 
 static const uint16_t pallets[] = {0, 5, 0, 2, 12, 0, 0, 0, 5, 0, 1, 0, 0, 1, 0, 3, 12, 1, 0, 0, 5, 3, 4, 0, 1, 2, 5, 0};
 /* child::2[child::3 and not(right::*)] */
 static const uint16_t last_bay[] = {0, 1, 0, 2, 0, 1, 0, 3, 8, 1, 0, 0, 0, 3, 0, 65535, 8, 3, 0, 0, 9, 4, 0, 0, 10, 2, 5, 0, 5, 0, 6, 0};
+/* the bays as what a star leads to from the root, of child::*[. is $0]; and .[. is $0][child::3 same $1], the bays with their pallets */
+static const uint16_t under_star[] = {STEP(1, STAR), ONE(12, 0), TWO(5, 0, 1), ONE(13, 2), STEP(0, 2), TWO(1, 3, 4), ONE(7, 5)};
+static const uint16_t under_same[] = {SELF, ONE(12, 0), TWO(5, 0, 1), STEP(1, 3), ONE(6, 1), TWO(14, 3, 4), TWO(5, 2, 5)};
 static const uint16_t child[] = {0, 1, 0, 65535};
 static const uint16_t child_3[] = {0, 1, 0, 3};
 static const uint16_t following[] = {0, 7, 0, 65535};
@@ -154,10 +167,40 @@ static void queries(void)
     query("no variables", SLICE(last_bay), 0, 0, 0);
     query("64 entries", nested, 256, 0, 0, 0);
     query("65 entries", nested, 260, 0, 8, 0);
+    for (uint16_t e = 1; e < 65; e++)
+        nested[4 * e] = 13;
+    query("64 entries, stars", nested, 256, 0, 0, 0);
+    query("65 entries, stars", nested, 260, 0, 8, 0);
     query("no entries", NOTHING, 0, 8, 0);
     query("half an entry", child, 2, 0, 8, 0);
     query("4 variables", SLICE(pallets), 4, 9, 0);
-    query("kind 13", NUMBERS(0, 1, 0, 2, 13, 0, 0, 0), 0, 10, 1);
+    query("kind 13", NUMBERS(STEP(1, 2), ONE(13, 0)), 0, 0, 0);
+    query("kind 14", NUMBERS(SELF, STEP(1, 2), STEP(1, 3), TWO(14, 1, 2), TWO(5, 0, 3)), 0, 0, 0);
+    for (uint32_t kind = 15; kind < 65536; kind = kind < 300 ? kind + 1 : 3 * kind) {
+        query("a kind above 14", NUMBERS(STEP(1, 2), ONE((uint16_t)kind, 0)), 0, 10, 1);
+        query("a kind above 14, before all else", NUMBERS(STEP(13, 2), TWO((uint16_t)kind, 9, 9)), 0, 10, 1);
+    }
+    query("kind 65535", NUMBERS(ONE(13, 0), ONE(65535, 0)), 0, 10, 1);
+    query("a star's right field", NUMBERS(STEP(1, 2), TWO(13, 0, 1)), 0, 11, 1);
+    query("a star's tag", NUMBERS(STEP(1, 2), 13, 0, 0, 65535), 0, 11, 1);
+    query("a tag of same", NUMBERS(SELF, SELF, SELF, 14, 1, 2, 1, TWO(5, 0, 3)), 0, 11, 3);
+    query("a star of itself", NUMBERS(STEP(1, 2), ONE(13, 1)), 0, 12, 1);
+    query("a star of a later path", NUMBERS(ONE(13, 1), SELF), 0, 12, 0);
+    query("same, a later path on the left", NUMBERS(SELF, TWO(14, 2, 0), SELF, TWO(5, 2, 1)), 0, 12, 1);
+    query("same, a later path on the right", NUMBERS(SELF, TWO(14, 0, 1), SELF, TWO(5, 2, 1)), 0, 12, 1);
+    query("a star of a node expression", NUMBERS(ONE(12, 0), ONE(13, 0)), 1, 13, 1);
+    query("a star of a same", NUMBERS(SELF, SELF, TWO(14, 0, 1), ONE(13, 2)), 0, 13, 3);
+    query("same, a node expression on the left", NUMBERS(SELF, ONE(12, 0), SELF, TWO(14, 1, 2), TWO(5, 0, 3)), 1, 13, 3);
+    query("same, a node expression on the right", NUMBERS(SELF, ONE(12, 0), SELF, TWO(14, 2, 1), TWO(5, 0, 3)), 1, 13, 3);
+    query("some of a same", NUMBERS(SELF, SELF, SELF, TWO(14, 1, 2), ONE(8, 3), TWO(5, 0, 4)), 0, 13, 4);
+    query("not of a star", NUMBERS(SELF, SELF, ONE(13, 1), ONE(9, 2), TWO(5, 0, 3)), 0, 13, 3);
+    query("a filter by a star", NUMBERS(SELF, SELF, ONE(13, 1), TWO(5, 0, 2)), 0, 13, 3);
+    query("a filter of a same", NUMBERS(SELF, SELF, TWO(14, 0, 1), ONE(12, 0), TWO(5, 2, 3)), 1, 13, 4);
+    query("a path in a same and elsewhere", NUMBERS(SELF, SELF, TWO(14, 0, 1), TWO(5, 0, 2)), 0, 14, 0);
+    query("a path that a same has twice", NUMBERS(SELF, SELF, TWO(14, 1, 1), TWO(5, 0, 2)), 0, 14, 1);
+    query("a star never used", NUMBERS(SELF, ONE(13, 0), SELF), 0, 14, 1);
+    query("a same alone", NUMBERS(SELF, SELF, TWO(14, 0, 1)), 0, 15, 2);
+    query("same, of a query that is refused for its variable", NUMBERS(ONE(6, 1), SELF, TWO(14, 0, 1)), 1, 11, 0);
     query("axis 13", NUMBERS(0, 13, 0, 2), 0, 11, 0);
     query("test 65534", NUMBERS(0, 1, 0, 65534), 0, 0, 0);
     query("axis 13 and test 65534", NUMBERS(0, 13, 0, 65534), 0, 11, 0);
@@ -276,7 +319,11 @@ static void images(void)
         image(d, "a bad tag", ON(NUMBERS(65535, 1, 0, 65535), SLICE(child), 0, NOTHING), "11", 6, 7, 1, "");
         image(d, "no query", LENT(NOTHING, 0, NOTHING), "111111", 6, 8, 0, "");
         image(d, "4 variables", LENT(SLICE(pallets), 4, NUMBERS(1, 2, 3, 4)), "111111", 6, 9, 0, "");
-        image(d, "kind 13", LENT(NUMBERS(13, 0, 0, 0), 0, NOTHING), "111111", 6, 10, 0, "");
+        image(d, "kind 15", LENT(NUMBERS(15, 0, 0, 0), 0, NOTHING), "111111", 6, 10, 0, "");
+        image(d, "a star's tag", LENT(NUMBERS(SELF, 13, 0, 0, 1), 0, NOTHING), "111111", 6, 11, 1, "");
+        image(d, "a star of a node expression", LENT(NUMBERS(ONE(12, 0), ONE(13, 0)), 1, NUMBERS(0)), "111111", 6, 13, 1, "");
+        image(d, "a same for the query", LENT(NUMBERS(SELF, SELF, TWO(14, 0, 1)), 0, NOTHING), "111111", 6, 15, 2, "");
+        image(d, "a star, room for 5 bytes", LENT(NUMBERS(SELF, ONE(13, 0)), 0, NOTHING), "111111", 5, 20, 0, "");
         image(d, "axis 13", LENT(NUMBERS(0, 13, 0, 0), 0, NOTHING), "111111", 6, 11, 0, "");
         image(d, "an operand that is its own entry", LENT(NUMBERS(7, 0, 0, 0), 0, NOTHING), "111111", 6, 12, 0, "");
         image(d, "not of a path", LENT(NUMBERS(0, 1, 0, 2, 9, 0, 0, 0), 0, NOTHING), "111111", 6, 13, 1, "");
@@ -420,7 +467,7 @@ static void bit_relations(void)
     bit_relation("a bad tag", ON(NUMBERS(65535, 1, 0, 65535), SLICE(child), 0, NOTHING), 24, 7, 1, "");
     bit_relation("no query", LENT(NOTHING, 0, NOTHING), 24, 8, 0, "");
     bit_relation("4 variables", LENT(SLICE(pallets), 4, NUMBERS(1, 2, 3, 4)), 24, 9, 0, "");
-    bit_relation("kind 13", LENT(NUMBERS(13, 0, 0, 0), 0, NOTHING), 24, 10, 0, "");
+    bit_relation("kind 15", LENT(NUMBERS(15, 0, 0, 0), 0, NOTHING), 24, 10, 0, "");
     bit_relation("a bad query", LENT(NUMBERS(0, 1, 1, 2), 0, NOTHING), 24, 11, 0, "");
     bit_relation("an operand that is its own entry", LENT(NUMBERS(7, 0, 0, 0), 0, NOTHING), 24, 12, 0, "");
     bit_relation("not of a path", LENT(NUMBERS(0, 1, 0, 2, 9, 0, 0, 0), 0, NOTHING), 24, 13, 1, "");
@@ -431,6 +478,154 @@ static void bit_relations(void)
     bit_relation("variable 1 at node 6, and no room", LENT(SLICE(pallets), 2, NUMBERS(5, 6)), 0, 17, 1, "");
     bit_relation("room for 23 words", to_child, 23, 20, 0, "");
     bit_relation("no room", to_child, 0, 20, 0, "");
+}
+
+/* A query whose pairs are told, as digits, n rows of n: all pairs in bytes and in bits, and both images of every set of nodes. */
+static void both_engines(const char *what, struct lent l, const char *rows)
+{
+    size_t n = l.n;
+    relation(what, l, n * n, 0, 0, rows);
+    bit_relation(what, l, 4 * n, 0, 0, rows);
+    for (size_t set = 0; set < (size_t)1 << n; set++) {
+        char from[9] = "", to[9] = "", back[9] = "";
+        memset(to, '0', n);
+        memset(back, '0', n);
+        for (size_t x = 0; x < n; x++)
+            from[x] = (char)('0' + (set >> x & 1));
+        for (size_t x = 0; x < n; x++)
+            for (size_t y = 0; y < n; y++)
+                if (rows[x * n + y] == '1') {
+                    to[y] |= from[x] & 1;
+                    back[x] |= from[y] & 1;
+                }
+        image(&forwards, what, l, from, n, 0, 0, to);
+        image(&backwards, what, l, from, n, 0, 0, back);
+    }
+}
+#define IDENTITY "100000" "010000" "001000" "000100" "000010" "000001"
+#define ALL_BELOW "111111" "011100" "001000" "000100" "000011" "000001"
+#define DIAGONAL(a, b, c, d, e, f) a "00000" "0" b "0000" "00" c "000" "000" d "00" "0000" e "0" "00000" f
+
+static void stars(void)
+{
+    both_engines("(child::*)*", LENT(NUMBERS(STEP(1, STAR), ONE(13, 0)), 0, NOTHING), ALL_BELOW);
+    both_engines("descendant-or-self::node()", LENT(NUMBERS(BELOW), 0, NOTHING), ALL_BELOW);
+    both_engines("descendant-or-self::*", LENT(NUMBERS(STEP(11, STAR)), 0, NOTHING), ALL_BELOW);
+    both_engines("((child::*)*)*", LENT(NUMBERS(STEP(1, STAR), ONE(13, 0), ONE(13, 1)), 0, NOTHING), ALL_BELOW);
+    both_engines("(child::3)*", LENT(NUMBERS(STEP(1, 3), ONE(13, 0)), 0, NOTHING), "100000" "011100" "001000" "000100" "000011" "000001");
+    both_engines("(right::*)*", LENT(NUMBERS(STEP(3, STAR), ONE(13, 0)), 0, NOTHING),
+                 "100000" "010010" "001100" "000100" "000010" "000001");
+    both_engines("(parent::*)*", LENT(NUMBERS(STEP(2, STAR), ONE(13, 0)), 0, NOTHING),
+                 "100000" "110000" "111000" "110100" "100010" "100011");
+    both_engines("(child::9)*", LENT(NUMBERS(STEP(1, 9), ONE(13, 0)), 0, NOTHING), IDENTITY);
+    both_engines("(.)*", LENT(NUMBERS(SELF, ONE(13, 0)), 0, NOTHING), IDENTITY);
+    both_engines("(child::2/child::3)*", LENT(NUMBERS(STEP(1, 2), STEP(1, 3), TWO(1, 0, 1), ONE(13, 2)), 0, NOTHING),
+                 "101101" "010000" "001000" "000100" "000010" "000001");
+    both_engines("((right::*)* union child::*)*",
+                 LENT(NUMBERS(STEP(3, STAR), ONE(13, 0), STEP(1, STAR), TWO(2, 1, 2), ONE(13, 3)), 0, NOTHING),
+                 "111111" "011111" "001100" "000100" "000011" "000001");
+    both_engines("(child::* union parent::*)*", LENT(NUMBERS(STEP(1, STAR), STEP(2, STAR), TWO(2, 0, 1), ONE(13, 2)), 0, NOTHING),
+                 "111111" "111111" "111111" "111111" "111111" "111111");
+    /* by way of the first node alone, and of the last */
+    both_engines("(parent::* union child::2)*", LENT(NUMBERS(STEP(2, STAR), STEP(1, 2), TWO(2, 0, 1), ONE(13, 2)), 0, NOTHING),
+                 "110010" "110010" "111010" "110110" "110010" "110011");
+    both_engines("(self::1/$0 union self::3/parent::2)*",
+                 LENT(NUMBERS(STEP(0, 1), ONE(6, 0), TWO(1, 0, 1), STEP(0, 3), STEP(2, 2), TWO(1, 3, 4), TWO(2, 2, 5), ONE(13, 6)), 1,
+                      NUMBERS(5)),
+                 "100011" "010000" "011000" "010100" "000010" "000011");
+    both_engines("(child::*)*/self::3", LENT(NUMBERS(STEP(1, STAR), ONE(13, 0), STEP(0, 3), TWO(1, 1, 2)), 0, NOTHING),
+                 "001101" "001100" "001000" "000100" "000001" "000001");
+    both_engines("(child::*)*/(right::*)*",
+                 LENT(NUMBERS(STEP(1, STAR), ONE(13, 0), STEP(3, STAR), ONE(13, 2), TWO(1, 1, 3)), 0, NOTHING),
+                 "111111" "011110" "001100" "000100" "000011" "000001");
+    both_engines("(child::*)* except .", LENT(NUMBERS(STEP(1, STAR), ONE(13, 0), SELF, TWO(4, 1, 2)), 0, NOTHING),
+                 "011111" "001100" "000000" "000000" "000001" "000000");
+    both_engines("(descendant::* except child::*)*", LENT(NUMBERS(STEP(5, STAR), STEP(1, STAR), TWO(4, 0, 1), ONE(13, 2)), 0, NOTHING),
+                 "101101" "010000" "001000" "000100" "000010" "000001");
+    both_engines("(/child::2)*", LENT(NUMBERS(STEP(1, 2), ONE(7, 0), ONE(13, 1)), 0, NOTHING),
+                 "110010" "010010" "011010" "010110" "010010" "010011");
+    both_engines("/(child::*)*", LENT(NUMBERS(STEP(1, STAR), ONE(13, 0), ONE(7, 1)), 0, NOTHING),
+                 "111111" "111111" "111111" "111111" "111111" "111111");
+    /* under a filter, and over one */
+    both_engines("descendant::*[(right::*)*/self::2[not(right::*)]]",
+                 LENT(NUMBERS(STEP(5, STAR), STEP(3, STAR), ONE(13, 1), STEP(0, 2), STEP(3, STAR), ONE(8, 4), ONE(9, 5), TWO(5, 3, 6),
+                              TWO(1, 2, 7), ONE(8, 8), TWO(5, 0, 9)), 0, NOTHING),
+                 "010010" "000000" "000000" "000000" "000000" "000000");
+    both_engines("(child::*[child::3])*", LENT(NUMBERS(STEP(1, STAR), STEP(1, 3), ONE(8, 1), TWO(5, 0, 2), ONE(13, 3)), 0, NOTHING),
+                 "110010" "010000" "001000" "000100" "000010" "000001");
+    both_engines("($0)*", LENT(NUMBERS(ONE(6, 0), ONE(13, 0)), 1, NUMBERS(3)), "100100" "010100" "001100" "000100" "000110" "000101");
+    both_engines("(child::*[. is $0])*", LENT(NUMBERS(STEP(1, STAR), ONE(12, 0), TWO(5, 0, 1), ONE(13, 2)), 1, NUMBERS(1)),
+                 "110000" "010000" "001000" "000100" "000010" "000001");
+
+    /* every node stands in the star of what holds of none, a document node too */
+    both_engines("(child::*)* in one node", ON(NUMBERS(65535, 1), NUMBERS(STEP(1, STAR), ONE(13, 0)), 0, NOTHING), "1");
+    both_engines("(self::*)* in a document node", ON(NUMBERS(65535, 65534), NUMBERS(STEP(0, STAR), ONE(13, 0)), 0, NOTHING), "1");
+    both_engines("(child::*)*", ON(SLICE(document), NUMBERS(STEP(1, STAR), ONE(13, 0)), 0, NOTHING),
+                 "1111111" "0111111" "0011100" "0001000" "0000100" "0000011" "0000001");
+    both_engines("descendant-or-self::node()", ON(SLICE(document), NUMBERS(BELOW), 0, NOTHING),
+                 "1111111" "0111111" "0011100" "0001000" "0000100" "0000011" "0000001");
+    both_engines("descendant-or-self::*", ON(SLICE(document), NUMBERS(STEP(11, STAR)), 0, NOTHING),
+                 "0111111" "0111111" "0011100" "0001000" "0000100" "0000011" "0000001");
+    both_engines("(parent::*)*", ON(SLICE(document), NUMBERS(STEP(2, STAR), ONE(13, 0)), 0, NOTHING),
+                 "1000000" "0100000" "0110000" "0111000" "0110100" "0100010" "0100011");
+    both_engines("(parent::node())*", ON(SLICE(document), NUMBERS(PARENT, ONE(13, 0)), 0, NOTHING),
+                 "1000000" "1100000" "1110000" "1111000" "1110100" "1100010" "1100011");
+}
+
+/* A filter of the dot: the nodes at which it holds are told one by one. */
+static void sames(void)
+{
+    both_engines(".[child::2/child::3 same descendant::3]",
+                 LENT(NUMBERS(SELF, STEP(1, 2), STEP(1, 3), TWO(1, 1, 2), STEP(5, 3), TWO(14, 3, 4), TWO(5, 0, 5)), 0, NOTHING),
+                 DIAGONAL("1", "0", "0", "0", "0", "0"));
+    both_engines(".[child::* same descendant::3]",
+                 LENT(NUMBERS(SELF, STEP(1, STAR), STEP(5, 3), TWO(14, 1, 2), TWO(5, 0, 3)), 0, NOTHING),
+                 DIAGONAL("0", "1", "0", "0", "1", "0"));
+    both_engines(".[descendant::3 same child::*]",
+                 LENT(NUMBERS(SELF, STEP(5, 3), STEP(1, STAR), TWO(14, 1, 2), TWO(5, 0, 3)), 0, NOTHING),
+                 DIAGONAL("0", "1", "0", "0", "1", "0"));
+    both_engines(".[not(child::* same descendant::3)]",
+                 LENT(NUMBERS(SELF, STEP(1, STAR), STEP(5, 3), TWO(14, 1, 2), ONE(9, 3), TWO(5, 0, 4)), 0, NOTHING),
+                 DIAGONAL("1", "0", "1", "1", "0", "1"));
+    /* the nodes that either path leads to overlap, but for no node that it leads to both: each start counts by itself */
+    both_engines(".[child::* same right::*]",
+                 LENT(NUMBERS(SELF, STEP(1, STAR), STEP(3, STAR), TWO(14, 1, 2), TWO(5, 0, 3)), 0, NOTHING),
+                 DIAGONAL("0", "0", "0", "0", "0", "0"));
+    both_engines(".[child::2 same child::3]",
+                 LENT(NUMBERS(SELF, STEP(1, 2), STEP(1, 3), TWO(14, 1, 2), TWO(5, 0, 3)), 0, NOTHING),
+                 DIAGONAL("0", "0", "0", "0", "0", "0"));
+    both_engines(".[parent::* same ancestor::1]",
+                 LENT(NUMBERS(SELF, STEP(2, STAR), STEP(6, 1), TWO(14, 1, 2), TWO(5, 0, 3)), 0, NOTHING),
+                 DIAGONAL("0", "1", "0", "0", "1", "0"));
+    both_engines(".[/child::2 same right::*]",
+                 LENT(NUMBERS(SELF, STEP(1, 2), ONE(7, 1), STEP(3, STAR), TWO(14, 2, 3), TWO(5, 0, 4)), 0, NOTHING),
+                 DIAGONAL("0", "1", "0", "0", "0", "0"));
+    both_engines(".[. same .]", LENT(NUMBERS(SELF, SELF, SELF, TWO(14, 1, 2), TWO(5, 0, 3)), 0, NOTHING), IDENTITY);
+    both_engines(".[. same $0]", LENT(NUMBERS(SELF, SELF, ONE(6, 0), TWO(14, 1, 2), TWO(5, 0, 3)), 1, NUMBERS(3)),
+                 DIAGONAL("0", "0", "0", "1", "0", "0"));
+    both_engines(".[$1 same $0]", LENT(NUMBERS(SELF, ONE(6, 1), ONE(6, 0), TWO(14, 1, 2), TWO(5, 0, 3)), 2, NUMBERS(3, 3)), IDENTITY);
+    both_engines(".[$1 same $0]", LENT(NUMBERS(SELF, ONE(6, 1), ONE(6, 0), TWO(14, 1, 2), TWO(5, 0, 3)), 2, NUMBERS(3, 2)),
+                 DIAGONAL("0", "0", "0", "0", "0", "0"));
+    both_engines("child::*[(child::*)* same $0]",
+                 LENT(NUMBERS(STEP(1, STAR), STEP(1, STAR), ONE(13, 1), ONE(6, 0), TWO(14, 2, 3), TWO(5, 0, 4)), 1, NUMBERS(5)),
+                 "000010" "000000" "000000" "000000" "000001" "000000");
+    both_engines(".[(child::*)*/self::3 same descendant::*[not(right::*)]]",
+                 LENT(NUMBERS(SELF, STEP(1, STAR), ONE(13, 1), STEP(0, 3), TWO(1, 2, 3), STEP(5, STAR), STEP(3, STAR), ONE(8, 6), ONE(9, 7),
+                              TWO(5, 5, 8), TWO(14, 4, 9), TWO(5, 0, 10)), 0, NOTHING),
+                 DIAGONAL("1", "1", "0", "0", "1", "0"));
+    both_engines("(child::*[child::* same descendant::3])*",
+                 LENT(NUMBERS(STEP(1, STAR), STEP(1, STAR), STEP(5, 3), TWO(14, 1, 2), TWO(5, 0, 3), ONE(13, 4)), 0, NOTHING),
+                 "110010" "010000" "001000" "000100" "000010" "000001");
+    both_engines(".[.[. same child::*/..] same .]",
+                 LENT(NUMBERS(SELF, SELF, SELF, STEP(1, STAR), PARENT, TWO(1, 3, 4), TWO(14, 2, 5), TWO(5, 1, 6), SELF, TWO(14, 7, 8),
+                              TWO(5, 0, 9)), 0, NOTHING),
+                 DIAGONAL("1", "1", "0", "0", "1", "0"));
+    both_engines(".[right::* same following::2 or child::3 same descendant::*[left::*]]",
+                 LENT(NUMBERS(SELF, STEP(3, STAR), STEP(7, 2), TWO(14, 1, 2), STEP(1, 3), STEP(5, STAR), STEP(4, STAR), ONE(8, 6),
+                              TWO(5, 5, 7), TWO(14, 4, 8), TWO(11, 3, 9), TWO(5, 0, 10)), 0, NOTHING),
+                 DIAGONAL("0", "1", "0", "0", "0", "0"));
+    both_engines(".[. same self::*]", ON(SLICE(document), NUMBERS(SELF, SELF, STEP(0, STAR), TWO(14, 1, 2), TWO(5, 0, 3)), 0, NOTHING),
+                 "0000000" "0100000" "0010000" "0001000" "0000100" "0000010" "0000001");
 }
 
 static void packing(const char *what, uint16_t n, size_t length, size_t room, uint16_t number, uint16_t place)
@@ -544,31 +739,80 @@ static void conversions(void)
     unpacking("256 nodes have no stray bits, but no room", 256, 1024, 65535, 20, 0);
 }
 
-/* As large as a tree may be, a chain: from each node to all below it. What gz_pairs and gz_pairs_bits leave are two forms of one
-   relation, and gz_pack and gz_unpack turn either into the other. */
-static void both_forms(void)
+/* A chain as large as a tree may be, with three tags in turn. */
+static uint16_t chain[512];
+
+static void fill_chain(void)
 {
-    uint16_t chain[512];
     for (uint16_t x = 0; x < 256; x++)
         chain[2 * x] = x == 0 ? 65535 : x - 1, chain[2 * x + 1] = x % 3;
+}
+
+/* The pairs that are due stand in cells_lent. */
+static void large_relation(const char *what, struct lent l)
+{
+    size_t n = l.n;
+    fill_words();
+    put_bits(words_wanted + MARGIN, cells_lent, n);
+    gz_reply r = gz_pairs_bits(SHARED(l.tree), l.query, l.query_len, 0, NULL, 0, words_memory + MARGIN, 1030);
+    expect(r.number == 0 && r.place == 0, "gz_pairs_bits", what, "reply");
+    expect(memcmp(words_memory, words_wanted, sizeof words_memory) == 0, "gz_pairs_bits", what, "buffer");
+    fill_cells();
+    memcpy(cells_wanted + MARGIN, cells_lent, n * n);
+    gz_pairs(SHARED(l.tree), l.query, l.query_len, 0, NULL, 0, cells_memory + MARGIN, n * n);
+    expect(memcmp(cells_memory, cells_wanted, sizeof cells_memory) == 0, "gz_pairs", what, "buffer");
+}
+
+/* In a chain, from each node to all below it. What gz_pairs and gz_pairs_bits leave are two forms of one relation, and gz_pack and
+   gz_unpack turn either into the other. */
+static void both_forms(void)
+{
+    fill_chain();
     for (size_t n = 1; n <= 256; n += n < 60 ? 59 : 1) {
-        struct lent l = ON(chain, 2 * n, NUMBERS(0, 5, 0, 65535), 0, NOTHING);
-        fill_words();
         for (size_t x = 0; x < n; x++)
             for (size_t y = 0; y < n; y++)
                 cells_lent[x * n + y] = x < y;
-        put_bits(words_wanted + MARGIN, cells_lent, n);
-        gz_reply r = gz_pairs_bits(SHARED(l.tree), l.query, l.query_len, 0, NULL, 0, words_memory + MARGIN, 1030);
-        expect(r.number == 0 && r.place == 0, "gz_pairs_bits", "a chain", "reply");
-        expect(memcmp(words_memory, words_wanted, sizeof words_memory) == 0, "gz_pairs_bits", "a chain", "buffer");
-        fill_cells();
-        memcpy(cells_wanted + MARGIN, cells_lent, n * n);
-        gz_pairs(SHARED(l.tree), l.query, l.query_len, 0, NULL, 0, cells_memory + MARGIN, n * n);
-        expect(memcmp(cells_memory, cells_wanted, sizeof cells_memory) == 0, "gz_pairs", "a chain", "buffer");
-        memcpy(words_lent, words_wanted + MARGIN, 4 * n * sizeof *words_lent);
+        large_relation("a chain", ON(chain, 2 * n, NUMBERS(0, 5, 0, 65535), 0, NOTHING));
+        put_bits(words_lent, cells_lent, n);
         packing("a chain", (uint16_t)n, n * n, 4 * n, 0, 0);
         unpacking("a chain", (uint16_t)n, 4 * n, n * n, 0, 0);
     }
+}
+
+/* To the nodes that have none along an axis, and from those along another: a star of this has all pairs, by way of such a node alone. */
+#define BY_WAY_OF(to, none, from)                                                                                                         \
+    STEP(to, STAR), STEP(none, STAR), ONE(8, 1), ONE(9, 2), TWO(5, 0, 3), STEP(0, STAR), STEP(none, STAR), ONE(8, 6), ONE(9, 7),          \
+        TWO(5, 5, 8), STEP(from, STAR), TWO(1, 9, 10), TWO(2, 4, 11), ONE(13, 12)
+
+/* Stars that take as many turns as there are nodes, downwards and upwards; a star of leaps by two and by three, which are stars and
+   compositions themselves; a same that holds at every third node; and stars by way of the last node, and of the first. */
+static void large_stars(void)
+{
+    static const uint16_t sizes[] = {1, 2, 3, 31, 63, 64, 65, 127, 128, 129, 191, 192, 193, 254, 255, 256};
+    static const struct {
+        const char *what;
+        uint16_t table[56];
+        size_t length;
+    } queries[] = {{"(child::*)*", {STEP(1, STAR), ONE(13, 0)}, 8},
+                   {"(parent::*)*", {STEP(2, STAR), ONE(13, 0)}, 8},
+                   {"((child::*/child::*)* union child::*/child::*/child::*)*",
+                    {STEP(1, STAR), STEP(1, STAR), TWO(1, 0, 1), ONE(13, 2), STEP(1, STAR), STEP(1, STAR), TWO(1, 4, 5), STEP(1, STAR),
+                     TWO(1, 6, 7), TWO(2, 3, 8), ONE(13, 9)}, 44},
+                   {"(child::*)*[child::* same descendant::2]",
+                    {STEP(1, STAR), ONE(13, 0), STEP(1, STAR), STEP(5, 2), TWO(14, 2, 3), TWO(5, 1, 4)}, 24},
+                   {"a star by way of the last node", {BY_WAY_OF(5, 1, 6)}, 56},
+                   {"a star by way of the first node", {BY_WAY_OF(6, 2, 5)}, 56}};
+    fill_chain();
+    for (size_t i = 0; i < LENGTH(sizes); i++)
+        for (size_t q = 0; q < LENGTH(queries); q++) {
+            size_t n = sizes[i];
+            for (size_t x = 0; x < n; x++)
+                for (size_t y = 0; y < n; y++) {
+                    bool below = x <= y, due[] = {below, y <= x, below && y - x != 1, below && y % 3 == 1 && y + 1 < n, true, true};
+                    cells_lent[x * n + y] = due[q];
+                }
+            large_relation(queries[q].what, ON(chain, 2 * n, queries[q].table, queries[q].length, 0, NOTHING));
+        }
 }
 
 /* Pages. The cursor is moved on from call to call. */
@@ -677,6 +921,14 @@ static void pages(void)
     page("the document node too", unstarred, &cursor, 3, ACCEPTED(3, true), NUMBERS(0, 1, 2), AT(2, 0, 0));
     page("and the others", unstarred, &cursor, 8, ACCEPTED(4, false), NUMBERS(3, 4, 5, 6), AT(6, 0, 0));
 
+    /* variables under a star and under a same */
+    cursor = (gz_cursor){0};
+    page("a variable under a star", LENT(SLICE(under_star), 1, NOTHING), &cursor, 6, ACCEPTED(2, false), NUMBERS(1, 4), AT(4, 0, 0));
+    cursor = (gz_cursor){0};
+    page("a variable under a same, two rows", LENT(SLICE(under_same), 2, NOTHING), &cursor, 5, ACCEPTED(2, true), NUMBERS(1, 2, 1, 3),
+         AT(1, 3, 0));
+    page("a variable under a same, row 3", LENT(SLICE(under_same), 2, NOTHING), &cursor, 5, ACCEPTED(1, false), NUMBERS(4, 5), AT(4, 5, 0));
+
     /* a third variable, which plays no part */
     cursor = AT(1, 2, 4);
     struct lent three = LENT(SLICE(pallets), 3, NOTHING);
@@ -748,6 +1000,19 @@ static void quick_pages(void)
     cursor = (gz_cursor){0};
     page("no node is its own child", squared, &cursor, 4, ACCEPTED(0, false), NOTHING, (gz_cursor){0});
 
+    /* a star and a same beside the variables: .[. is $0]/(child::*)*[. is $1] and $0[child::* same descendant::3]; and over them */
+    struct lent below = LENT(NUMBERS(SELF, ONE(12, 0), TWO(5, 0, 1), STEP(1, STAR), ONE(13, 3), ONE(12, 1), TWO(5, 4, 5), TWO(1, 2, 6)), 2,
+                             NOTHING);
+    cursor = AT(0, 4, 900);
+    quick("a star, after (0, 4)", below, &cursor, 4, COUNTED(2, true, 5), NUMBERS(0, 5, 1, 1), AT(1, 1, 900));
+    quick("a star, the next two", below, &cursor, 5, COUNTED(2, true, 8), NUMBERS(1, 2, 1, 3), AT(1, 3, 900));
+    quick("a variable under a star", LENT(SLICE(under_star), 1, NOTHING), &cursor, 4, UNCOUNTED(29, 3), NOTHING, AT(1, 3, 900));
+    quick("a variable under a same", LENT(SLICE(under_same), 2, NOTHING), &cursor, 4, UNCOUNTED(29, 5), NOTHING, AT(1, 3, 900));
+    page("a star, the next row by a page", below, &cursor, 2, ACCEPTED(1, true), NUMBERS(2, 2), AT(2, 2, 900));
+    struct lent same_kept = LENT(NUMBERS(ONE(6, 0), STEP(1, STAR), STEP(5, 3), TWO(14, 1, 2), TWO(5, 0, 3)), 1, NOTHING);
+    cursor = (gz_cursor){0};
+    quick("a same", same_kept, &cursor, 6, COUNTED(2, false, 7), NUMBERS(1, 4), AT(4, 0, 0));
+
     /* a document node is among those that a variable stands for: $0[not(..)] */
     cursor = (gz_cursor){0};
     struct lent top = ON(SLICE(document), NUMBERS(6, 0, 0, 0, 0, 2, 0, 65534, 8, 1, 0, 0, 9, 2, 0, 0, 5, 0, 3, 0), 1, NOTHING);
@@ -798,6 +1063,22 @@ static void broken_rules(void)
         breaks("except, right", NUMBERS(0, 0, 0, 2, 6, v, 0, 0, 4, 0, 1, 0), 3, 2);
         breaks("not", NUMBERS(0, 0, 0, 2, 12, v, 0, 0, 9, 1, 0, 0, 5, 0, 2, 0), 3, 2);
         breaks("not, of a path", NUMBERS(0, 0, 0, 2, 6, v, 0, 0, 8, 1, 0, 0, 9, 2, 0, 0, 5, 0, 3, 0), 3, 3);
+        breaks("star", NUMBERS(ONE(6, v), ONE(13, 0)), 3, 1);
+        breaks("star, of is", NUMBERS(SELF, ONE(12, v), TWO(5, 0, 1), ONE(13, 2)), 3, 3);
+        breaks("same, left", NUMBERS(SELF, ONE(6, v), STEP(1, 2), TWO(14, 1, 2), TWO(5, 0, 3)), 3, 3);
+        breaks("same, right", NUMBERS(SELF, STEP(1, 2), ONE(6, v), TWO(14, 1, 2), TWO(5, 0, 3)), 3, 3);
+        breaks("same, both", NUMBERS(SELF, ONE(6, v), ONE(6, v), TWO(14, 1, 2), TWO(5, 0, 3)), 3, 3);
+        breaks("same, two variables", NUMBERS(SELF, ONE(6, v), ONE(6, other), TWO(14, 1, 2), TWO(5, 0, 3)), 3, 3);
+        /* stars of stars and of paths of two operands, a same under a not and over a star: the lowest entry */
+        breaks("star of a star", NUMBERS(ONE(6, v), ONE(13, 0), ONE(13, 1)), 3, 1);
+        breaks("star of a union", NUMBERS(STEP(1, 2), ONE(6, v), TWO(2, 0, 1), ONE(13, 2)), 3, 3);
+        breaks("star of a composition that breaks it", NUMBERS(ONE(6, v), ONE(6, v), TWO(1, 0, 1), ONE(13, 2)), 3, 2);
+        breaks("star, composed with its variable", NUMBERS(ONE(6, v), STEP(1, 2), ONE(6, v), TWO(2, 1, 2), ONE(13, 3), TWO(1, 0, 4)), 3, 4);
+        breaks("same under a not", NUMBERS(SELF, ONE(6, v), SELF, TWO(14, 1, 2), ONE(9, 3), TWO(5, 0, 4)), 3, 3);
+        breaks("same over a star", NUMBERS(SELF, SELF, ONE(6, v), ONE(13, 2), TWO(14, 1, 3), TWO(5, 0, 4)), 3, 3);
+        breaks("same over a filter", NUMBERS(SELF, SELF, ONE(12, v), TWO(5, 1, 2), STEP(1, 2), TWO(14, 3, 4), TWO(5, 0, 5)), 3, 5);
+        breaks("star and same beside other variables",
+               NUMBERS(ONE(6, other), STEP(1, 2), ONE(13, 1), TWO(1, 0, 2), SELF, ONE(6, v), TWO(14, 4, 5), TWO(5, 3, 6)), 3, 6);
         /* ($v/$w)/(self::2 union /$v): not right below the compose */
         breaks("compose, deep",
                NUMBERS(6, v, 0, 0, 6, other, 0, 0, 1, 0, 1, 0, 0, 0, 0, 2, 6, v, 0, 0, 7, 4, 0, 0, 2, 3, 5, 0, 1, 2, 6, 0), 3, 7);
@@ -1072,16 +1353,6 @@ static void refuses(const char *text, struct vocabulary v, size_t room, uint16_t
     reading(text, (const uint8_t *)text, strlen(text), v, room, UNREAD(number, place), NOTHING);
 }
 
-/* Entries of no, one and two operands. */
-#define STEP(axis, tag) 0, axis, 0, tag
-#define STAR 65535
-#define ANY_NODE 65534
-#define SELF STEP(0, ANY_NODE)
-#define PARENT STEP(2, ANY_NODE)
-#define BELOW STEP(11, ANY_NODE)
-#define ONE(kind, left) kind, left, 0, 0
-#define TWO(kind, left, right) kind, left, right, 0
-
 /* The worked readings and refusals of docs/REFERENCE.md; tests/source/reference_examples.py compares the lines. */
 static void worked(void)
 {
@@ -1108,6 +1379,13 @@ static void worked(void)
           NUMBERS(0, 1, 0, 2, 0, 1, 0, 3, 8, 1, 0, 0, 0, 3, 0, 65535, 8, 3, 0, 0, 9, 4, 0, 0, 10, 2, 5, 0, 5, 0, 6, 0));
     reads("descendant::bay[. is $0]/child::pallet[. is $1]", TEACHING, 2,
           NUMBERS(0, 5, 0, 2, 12, 0, 0, 0, 5, 0, 1, 0, 0, 1, 0, 3, 12, 1, 0, 0, 5, 3, 4, 0, 1, 2, 5, 0));
+    reads("(child::*)*", TEACHING, 0, NUMBERS(0, 1, 0, 65535, 13, 0, 0, 0));
+    reads("child::bay/(child::pallet)*", TEACHING, 0, NUMBERS(0, 1, 0, 2, 0, 1, 0, 3, 13, 1, 0, 0, 1, 0, 2, 0));
+    reads(".[child::bay/child::pallet same descendant::pallet]", TEACHING, 0,
+          NUMBERS(0, 0, 0, 65534, 0, 1, 0, 2, 0, 1, 0, 3, 1, 1, 2, 0, 0, 5, 0, 3, 14, 3, 4, 0, 5, 0, 5, 0));
+    reads(".[.. union . same $0 and .]", TEACHING, 1,
+          NUMBERS(0, 0, 0, 65534, 0, 2, 0, 65534, 0, 0, 0, 65534, 2, 1, 2, 0, 6, 0, 0, 0, 14, 3, 4, 0, 0, 0, 0, 65534, 8, 6, 0, 0, 10,
+                  5, 7, 0, 5, 0, 8, 0));
     refuses("child::bay[child::pallet", TEACHING, 256, 24, 24);
     refuses("child:bay", TEACHING, 256, 24, 6);
     refuses("pallet", TEACHING, 256, 24, 2);
@@ -1133,6 +1411,12 @@ static void worked(void)
     refuses("child::shelf", TEACHING, 256, 25, 7);
     refuses("child::shelf[..]/child::", TEACHING, 256, 24, 24);
     refuses("child::bay[child::none or child::shelf]", TEACHING, 256, 25, 18);
+    refuses("child::bay*", TEACHING, 256, 24, 10);
+    refuses("(child::bay)**", TEACHING, 256, 24, 13);
+    refuses(".[(child::bay or .)*]", TEACHING, 256, 24, 19);
+    refuses(". same ..", TEACHING, 256, 24, 2);
+    refuses(".[. same .. same $0]", TEACHING, 256, 24, 12);
+    refuses("(child::shelf)*", TEACHING, 256, 25, 8);
 }
 
 static void paths(void)
@@ -1199,6 +1483,62 @@ static void filters(void)
     reads(".[((..))/$0]", TEACHING, 1, NUMBERS(SELF, PARENT, ONE(6, 0), TWO(1, 1, 2), ONE(8, 3), TWO(5, 0, 4)));
     reads(".[(..) union $0]", TEACHING, 1, NUMBERS(SELF, PARENT, ONE(6, 0), TWO(2, 1, 2), ONE(8, 3), TWO(5, 0, 4)));
     reads(".[(..)[$0]]", TEACHING, 1, NUMBERS(SELF, PARENT, ONE(6, 0), ONE(8, 2), TWO(5, 1, 3), ONE(8, 4), TWO(5, 0, 5)));
+}
+
+/* The star behind a bracket that holds a path, and same. */
+static void closures(void)
+{
+    reads("(.)*", TEACHING, 0, NUMBERS(SELF, ONE(13, 0)));
+    reads("(child::node())*", TEACHING, 0, NUMBERS(STEP(1, ANY_NODE), ONE(13, 0)));
+    reads("($2)*", TEACHING, 3, NUMBERS(ONE(6, 2), ONE(13, 0)));
+    reads("((.))*", TEACHING, 0, NUMBERS(SELF, ONE(13, 0)));
+    reads("((.)*)", TEACHING, 0, NUMBERS(SELF, ONE(13, 0)));
+    reads("((child::pallet)*)*", TEACHING, 0, NUMBERS(STEP(1, 3), ONE(13, 0), ONE(13, 1)));
+    reads("(child::bay/child::pallet)*", TEACHING, 0, NUMBERS(STEP(1, 2), STEP(1, 3), TWO(1, 0, 1), ONE(13, 2)));
+    reads("(child::bay)*/child::pallet", TEACHING, 0, NUMBERS(STEP(1, 2), ONE(13, 0), STEP(1, 3), TWO(1, 1, 2)));
+    reads("(child::bay)*//(..)*", TEACHING, 0, NUMBERS(STEP(1, 2), ONE(13, 0), BELOW, TWO(1, 1, 2), PARENT, ONE(13, 4), TWO(1, 3, 5)));
+    reads("/(..)*", TEACHING, 0, NUMBERS(PARENT, ONE(13, 0), ONE(7, 1)));
+    reads("(/..)*", TEACHING, 0, NUMBERS(PARENT, ONE(7, 0), ONE(13, 1)));
+    reads("//(.)*", TEACHING, 0, NUMBERS(BELOW, SELF, ONE(13, 1), TWO(1, 0, 2), ONE(7, 3)));
+    reads("(. union ..)* except $0", TEACHING, 1, NUMBERS(SELF, PARENT, TWO(2, 0, 1), ONE(13, 2), ONE(6, 0), TWO(4, 3, 4)));
+    reads(". union (..)*", TEACHING, 0, NUMBERS(SELF, PARENT, ONE(13, 1), TWO(2, 0, 2)));
+    /* a filter behind the star is over it, and one in the bracket under it */
+    reads("(..)*[.][$0]", TEACHING, 1, NUMBERS(PARENT, ONE(13, 0), SELF, ONE(8, 2), TWO(5, 1, 3), ONE(6, 0), ONE(8, 5), TWO(5, 4, 6)));
+    reads("(..[.])*", TEACHING, 0, NUMBERS(PARENT, SELF, ONE(8, 1), TWO(5, 0, 2), ONE(13, 3)));
+    reads("(..)[.]/(.)*", TEACHING, 0, NUMBERS(PARENT, SELF, ONE(8, 1), TWO(5, 0, 2), SELF, ONE(13, 4), TWO(1, 3, 5)));
+    reads(".[(..)*]", TEACHING, 0, NUMBERS(SELF, PARENT, ONE(13, 1), ONE(8, 2), TWO(5, 0, 3)));
+    reads(".[(..)*/$0]", TEACHING, 1, NUMBERS(SELF, PARENT, ONE(13, 1), ONE(6, 0), TWO(1, 2, 3), ONE(8, 4), TWO(5, 0, 5)));
+    reads(".[((..)*)]", TEACHING, 0, NUMBERS(SELF, PARENT, ONE(13, 1), ONE(8, 2), TWO(5, 0, 3)));
+    reads(".[not((..)*)]", TEACHING, 0, NUMBERS(SELF, PARENT, ONE(13, 1), ONE(8, 2), ONE(9, 3), TWO(5, 0, 4)));
+    reads(".[(.[(. or ..)])*]", TEACHING, 0,
+          NUMBERS(SELF, SELF, SELF, ONE(8, 2), PARENT, ONE(8, 4), TWO(11, 3, 5), TWO(5, 1, 6), ONE(13, 7), ONE(8, 8), TWO(5, 0, 9)));
+
+    reads(".[. same ..]", TEACHING, 0, NUMBERS(SELF, SELF, PARENT, TWO(14, 1, 2), TWO(5, 0, 3)));
+    reads(".[$2 same $1]", TEACHING, 3, NUMBERS(SELF, ONE(6, 2), ONE(6, 1), TWO(14, 1, 2), TWO(5, 0, 3)));
+    reads(".[(.) same (..)]", TEACHING, 0, NUMBERS(SELF, SELF, PARENT, TWO(14, 1, 2), TWO(5, 0, 3)));
+    reads(".[(. same ..)]", TEACHING, 0, NUMBERS(SELF, SELF, PARENT, TWO(14, 1, 2), TWO(5, 0, 3)));
+    reads(".[not(. same ..)]", TEACHING, 0, NUMBERS(SELF, SELF, PARENT, TWO(14, 1, 2), ONE(9, 3), TWO(5, 0, 4)));
+    reads(".[/.. same //.]", TEACHING, 0,
+          NUMBERS(SELF, PARENT, ONE(7, 1), BELOW, SELF, TWO(1, 3, 4), ONE(7, 5), TWO(14, 2, 6), TWO(5, 0, 7)));
+    reads(".[(.)* same (..)*]", TEACHING, 0, NUMBERS(SELF, SELF, ONE(13, 1), PARENT, ONE(13, 3), TWO(14, 2, 4), TWO(5, 0, 5)));
+    reads(".[..[. same ..] same .]", TEACHING, 0,
+          NUMBERS(SELF, PARENT, SELF, PARENT, TWO(14, 2, 3), TWO(5, 1, 4), SELF, TWO(14, 5, 6), TWO(5, 0, 7)));
+    reads("child::bay[child::pallet same descendant::*/..]", TEACHING, 0,
+          NUMBERS(STEP(1, 2), STEP(1, 3), STEP(5, STAR), PARENT, TWO(1, 2, 3), TWO(14, 1, 4), TWO(5, 0, 5)));
+    /* looser than union, and tighter than and */
+    reads(".[. union .. same $0 except $1]", TEACHING, 2,
+          NUMBERS(SELF, SELF, PARENT, TWO(2, 1, 2), ONE(6, 0), ONE(6, 1), TWO(4, 4, 5), TWO(14, 3, 6), TWO(5, 0, 7)));
+    reads(".[. same .. and $0]", TEACHING, 1,
+          NUMBERS(SELF, SELF, PARENT, TWO(14, 1, 2), ONE(6, 0), ONE(8, 4), TWO(10, 3, 5), TWO(5, 0, 6)));
+    reads(".[$0 or . same ..]", TEACHING, 1,
+          NUMBERS(SELF, ONE(6, 0), ONE(8, 1), SELF, PARENT, TWO(14, 3, 4), TWO(11, 2, 5), TWO(5, 0, 6)));
+    reads(".[. same $0 and . same $1 or . is $0]", TEACHING, 2,
+          NUMBERS(SELF, SELF, ONE(6, 0), TWO(14, 1, 2), SELF, ONE(6, 1), TWO(14, 4, 5), TWO(10, 3, 6), ONE(12, 0), TWO(11, 7, 8),
+                  TWO(5, 0, 9)));
+    reads(".[(. same .. or $0) and .]", TEACHING, 1,
+          NUMBERS(SELF, SELF, PARENT, TWO(14, 1, 2), ONE(6, 0), ONE(8, 4), TWO(11, 3, 5), SELF, ONE(8, 7), TWO(10, 6, 8), TWO(5, 0, 9)));
+    reads("child::same[child::same same child::and]", NAMES("\4same", "\3and"), 0,
+          NUMBERS(STEP(1, 0), STEP(1, 0), STEP(1, 1), TWO(14, 1, 2), TWO(5, 0, 3)));
 }
 
 static void typed_names(void)
@@ -1269,6 +1609,22 @@ static const struct {
     {"child::node-()", 12}, {"child::nodenode()", 15}, {"child::node()()", 13}, {"child::node()s", 13}, {"child::node()::*", 13},
     {"child::node()*", 13}, {"child::*()", 8}, {"child::()", 7}, {"child::(node())", 7}, {"child::text()", 11}, {"./node()", 2},
     {".[node()]", 4}, {".[child::node(]", 14}, {"(child::node()", 14}, {"child::node() or .", 14}, {"child::node\n()", 11},
+    /* a star stands behind a bracket that holds a path, and nowhere else */
+    {".*", 1}, {"..*", 2}, {"$0*", 2}, {"/*", 1}, {"(*)", 1}, {"()*", 1}, {"(.)**", 4}, {"(.) *", 4}, {"(.)*.", 4}, {"(.)*(.)", 4},
+    {"(.)*)", 4}, {"(.)*::*", 4}, {"(.)*name", 4}, {"(.)[.]*", 6}, {"(.)*[.]*", 7}, {"(./(.)*", 7}, {"child::(.)*", 7}, {"child::bay*", 10},
+    {"(.)* ", 5}, {"(.)*  union .", 5}, {"(.)* union", 10}, {"(.)*union .", 4}, {"(.)* or .", 5}, {"(.)* is $0", 6}, {"(.)* same .", 5},
+    {"(.)*/", 5}, {"(.)*//", 6}, {"(.)*/ .", 5}, {"(.)+", 3}, {"(.)?", 3},
+    {".[(. or .)*]", 10}, {".[(. and .)*]", 11}, {".[(not(.))*]", 10}, {".[(. is $0)*]", 11}, {".[(. same .)*]", 12},
+    {".[((. or .))*]", 12}, {".[not(.)*]", 8}, {".[. is $0*]", 9}, {".[(.)* is $0]", 8}, {".[(.)*", 6}, {".[(child::a or .)*]", 17},
+    /* same stands between two paths, in a test, once */
+    {". same .", 2}, {"(. same .)", 3}, {"(. same .)*", 3}, {"/. same .", 3}, {".[. same . same .]", 11}, {".[(. same .) same .]", 13},
+    {".[. same (. same .)]", 12}, {".[. same]", 8}, {".[. same ]", 9}, {".[. same  .]", 9}, {".[.  same .]", 4}, {".[.same .]", 3},
+    {".[. same.]", 8}, {".[ same .]", 2}, {".[same .]", 3}, {".[. sam .]", 7}, {".[. sames .]", 8}, {".[. Same .]", 4},
+    {".[. same not(.)]", 9},
+    {".[. same . is $0]", 12}, {".[not(.) same .]", 9}, {".[. is $0 same .]", 10}, {".[(. or .) same .]", 11}, {".[. same (. or .)]", 12},
+    {".[(. same .)/.]", 12}, {".[(. same .)[.]]", 12}, {".[(. same .) union .]", 13}, {".[. same . or", 13}, {".[. same .", 10},
+    {".[. same ./]", 11}, {".[. same . union", 16}, {".[. same . is", 12}, {".[. union same .]", 11}, {".[.[. same .] same", 18},
+    {".[. = .]", 4},
 };
 
 static void refused_texts(void)
@@ -1304,6 +1660,13 @@ static void refused_texts(void)
         bool read = length == 9 || length == 86 || length == 101;
         expect(read ? r.number == 0 : r.number == 24 && r.place == length, "gz_read", "a text that is cut", "reply");
     }
+    static const char closed[] = "(child::bay)*[.. union . same (left::*)*/self::pallet or (. same $1) and .]/((..)*[.])*";
+    for (uint16_t length = 1; length <= 87; length++) {
+        uint16_t table[256];
+        gz_read_reply r = gz_read((const uint8_t *)closed, length, TABLE(house), TABLE(site), table, 256);
+        bool read = length == 12 || length == 13 || length == 75 || length == 86 || length == 87;
+        expect(read ? r.number == 0 : r.number == 24 && r.place == length, "gz_read", "a text with stars that is cut", "reply");
+    }
 }
 
 /* Every front of child::node(): behind the colons it ends in a name, which no tag has here, until the bracket opens. */
@@ -1334,6 +1697,20 @@ static void limits(void)
     reading("filters that stay open", text, 1024, NAMES("", ""), 4, UNREAD(24, 1024), NOTHING);
     text[1023] = ']';
     reading("a filter that has no end", text, 1024, NAMES("", ""), 4, UNREAD(24, 1024), NOTHING);
+    /* stars of stars, as many as there is room for in a text, and in a table */
+    memset(text, '(', 341);
+    text[341] = '.';
+    for (size_t i = 0; i < 341; i++)
+        memcpy(text + 342 + 2 * i, ")*", 2);
+    reading("341 stars", text, 1024, NAMES("", ""), 0, UNREAD(26, 0), NOTHING);
+    reading("341 stars, one bracket open", text, 1022, NAMES("", ""), 0, UNREAD(24, 1022), NOTHING);
+    reading("64 stars", text + 341 - 64, 193, NAMES("", ""), 0, UNREAD(26, 0), NOTHING);
+    reading("63 stars and no room", text + 341 - 63, 190, NAMES("", ""), 255, UNREAD(20, 0), NOTHING);
+    for (uint16_t e = 0; e < 64; e++) {
+        const uint16_t self[] = {SELF}, star[] = {ONE(13, (uint16_t)(e - 1))};
+        memcpy(table + 4 * e, e == 0 ? self : star, sizeof self);
+    }
+    reading("63 stars", text + 341 - 63, 190, NAMES("", ""), 256, READ(256, 0), SLICE(table));
     memcpy(text, "child::", 7);
     memset(text + 7, 'a', 1017);
     reading("a name of 1,017 bytes", text, 1024, NAMES("\1a", ""), 4, UNREAD(25, 7), NOTHING);
@@ -1401,6 +1778,12 @@ static void typed_on_document(void)
     typed_image_on(SLICE(document), f, ".[not(parent::*)]", "1111111", "1100000");
     typed_image_on(SLICE(document), f, ".[not(..)]", "1111111", "1000000");
     typed_image_on(SLICE(document), f, "/child::hall/child::bay", "1000000", "0010010");
+    typed_image_on(SLICE(document), f, "(child::*)*", "1000000", "1111111");
+    typed_image_on(SLICE(document), b, "(child::*)*", "0000001", "1100011");
+    typed_image_on(SLICE(document), f, "(parent::*)*", "0000001", "0100011");
+    typed_image_on(SLICE(document), f, "(..)*", "0000001", "1100011");
+    typed_image_on(SLICE(document), f, ".[. same self::*]", "1111111", "0111111");
+    typed_image_on(SLICE(document), f, ".[child::node() same child::hall]", "1111111", "1000000");
     typed_image_on(NUMBERS(65535, 65534), f, "self::*", "1", "0");
     typed_image_on(NUMBERS(65535, 65534), f, ".", "1", "1");
     typed_image_on(SLICE(warehouse), f, "ancestor-or-self::node()", "000001", "100011");
@@ -1437,7 +1820,20 @@ static void rules(void)
     ruled("self::2 except $0", 29, 2);
     ruled("self::2[not(. is $0)]", 29, 2);
 
+    ruled("(child::*)*[. is $0]", 0, 0);
+    ruled(".[. is $0]/(child::*)*[. is $1]", 0, 0);
+    ruled(".[. is $0][child::* same descendant::3]", 0, 0);
+    ruled("descendant::2[. is $0]/child::3/(child::3)*[. is $1]", 0, 0);
+    ruled("(child::2[. is $0])*", 29, 3);
+    ruled("($0)*", 29, 1);
+    ruled(".[child::3 same $0]", 29, 3);
+    ruled(".[$0 same child::3]", 29, 3);
+    ruled("(.[(child::2)* same $1])*", 29, 4);
+
     ruled("self::1 union child::2[. is $0]", 0, 0);
+    ruled("(child::*)*[. is $2]/(right::*)*[. is $0]/(..)*[. is $1]", 0, 0);
+    ruled("$0[(right::*)*/child::3 same descendant::*[left::*]]/(child::*)*[. is $1]", 0, 0);
+    ruled(".[(.[child::2 same right::2])*/child::3 or . is $1][. is $0] union $1", 0, 0);
     ruled("self::0[. is $0]", 0, 0);
     ruled("child::2[. is $2]/child::3[. is $0]", 0, 0);
     ruled(".[. is $0]/following::*[. is $1]/ancestor::node()[. is $2]", 0, 0);
@@ -1457,6 +1853,7 @@ static void typed(void)
     worked();
     paths();
     filters();
+    closures();
     typed_names();
     refused_texts();
     cut_before_node();
@@ -1470,6 +1867,18 @@ static void typed(void)
     typed_image(f, "//child::pallet", "000001", "001101");
     typed_image(f, ".//child::pallet[left::pallet]/..", "010000", "010000");
     typed_image(f, "/descendant::bay[not(child::pallet/right::*)]//self::pallet", "100000", "000001");
+    typed_image(f, "(child::*)*", "010000", "011100");
+    typed_image(b, "(child::*)*", "000100", "110100");
+    typed_image(f, "(child::pallet)*", "110000", "111100");
+    typed_image(f, "(right::*)*", "011000", "011110");
+    typed_image(b, "(right::*)*", "000110", "011110");
+    typed_image(f, "((child::*)*/right::*)*", "100000", "100110");
+    typed_image(b, "((child::*)*/right::*)*", "000010", "110010");
+    typed_image(b, ".[(child::pallet)*/self::pallet]", "111111", "011111");
+    typed_image(f, ".[child::bay/child::pallet same descendant::pallet]", "111111", "100000");
+    typed_image(b, "descendant::*[(right::*)*/self::bay[not(right::*)]]", "111111", "100000");
+    typed_image(b, "child::bay[child::pallet same (child::*)*/self::*[right::*]]", "111111", "100000");
+    typed_image(b, "child::bay[child::pallet same (child::*)*/self::*[right::*]]", "000010", "000000");
 
     gz_cursor cursor = {0};
     uint16_t table[256];
@@ -1786,6 +2195,18 @@ static void two_firms(void)
     bit_relation("child::*, party 2", for_party(2, SLICE(child), 0, NOTHING), 40, 0, 0,
                  "01010100" "00100000" "00000000" "00001000" "00000000" "00000011" "00000000" "00000000");
 
+    /* a star leads to what is seen, and a same asks of what is seen */
+    static const uint16_t below[] = {STEP(1, STAR), ONE(13, 0)};
+    static const uint16_t with_pallets[] = {SELF, STEP(1, STAR), STEP(5, 3), TWO(14, 1, 2), TWO(5, 0, 3)};
+    both_engines("(child::*)*, party 1", for_party(1, SLICE(below), 0, NOTHING),
+                 "1111111" "0110000" "0010000" "0001110" "0000100" "0000010" "0000001");
+    both_engines("(child::*)*, party 2", for_party(2, SLICE(below), 0, NOTHING),
+                 "11111111" "01100000" "00100000" "00011000" "00001000" "00000111" "00000010" "00000001");
+    both_engines(".[child::* same descendant::3], party 1", for_party(1, SLICE(with_pallets), 0, NOTHING),
+                 "0000000" "0100000" "0000000" "0001000" "0000000" "0000000" "0000000");
+    both_engines(".[child::* same descendant::3], party 2", for_party(2, SLICE(with_pallets), 0, NOTHING),
+                 "00000000" "01000000" "00000000" "00010000" "00000000" "00000100" "00000000" "00000000");
+
     struct lent bays_of_1 = for_party(1, SLICE(pallets), 2, NOTHING), bays_of_2 = for_party(2, SLICE(pallets), 2, NOTHING);
     gz_cursor cursor = CURSOR(0, 9, 9, 900);
     page("rows 1 and 2, party 1", bays_of_1, &cursor, 4, ACCEPTED(2, true), NUMBERS(1, 2, 3, 4), AT(3, 4, 900));
@@ -2015,6 +2436,8 @@ static void all_alike(const struct shared *here, const struct shared *there, siz
                  {{0, 5, 0, 2, 12, 0, 0, 0, 5, 0, 1, 0, 0, 1, 0, 3, 12, 1, 0, 0, 5, 3, 4, 0, 1, 2, 5, 0}, 28, 2},
                  {{6, 0, 0, 0, 0, 2, 0, 65534, 8, 1, 0, 0, 9, 2, 0, 0, 5, 0, 3, 0}, 20, 1},
                  {{6, 0, 0, 0, 12, 0, 0, 0, 5, 0, 1, 0}, 12, 1},
+                 {{STEP(1, STAR), ONE(13, 0)}, 8, 0},
+                 {{ONE(6, 0), STEP(1, STAR), STEP(5, 2), TWO(14, 1, 2), TWO(5, 0, 3)}, 20, 1},
                  {{0, 1, 1, 0}, 4, 1}};
     for (int function = 0; function < FUNCTIONS; function++)
         for (size_t q = 0; q < LENGTH(asked); q++)
@@ -2144,8 +2567,11 @@ int main(void)
     counts();
     relations();
     bit_relations();
+    stars();
+    sames();
     conversions();
     both_forms();
+    large_stars();
     pages();
     quick_pages();
     broken_rules();

@@ -272,6 +272,9 @@ const FIRMS: [u16; 21] = [65535, 1, 0, 0, 2, 0, 1, 3, 1, 1, 3, 2, 1, 3, 2, 0, 2,
 const PALLETS: [u16; 28] = [0, 5, 0, 2, 12, 0, 0, 0, 5, 0, 1, 0, 0, 1, 0, 3, 12, 1, 0, 0, 5, 3, 4, 0, 1, 2, 5, 0];
 const FOLLOWING: [u16; 4] = [0, 7, 0, 65535];
 const CHILD: [u16; 4] = [0, 1, 0, 65535];
+// (child::*)* and child::*[child::* same descendant::3], the bays that have pallets
+const BELOW: [u16; 8] = [0, 1, 0, 65535, 13, 0, 0, 0];
+const WITH_PALLETS: [u16; 20] = [0, 1, 0, 65535, 0, 1, 0, 65535, 0, 5, 0, 3, 14, 1, 2, 0, 5, 0, 3, 0];
 const ACCEPTED: Reply = Reply { number: 0, place: 0 };
 
 fn refused(number: u16, place: u16) -> Reply {
@@ -289,6 +292,12 @@ fn main() {
     assert_eq!(check_query(&[0, 13, 0, 65534], 0), refused(11, 0));
     assert_eq!(check_query(&PALLETS, 2), ACCEPTED);
     assert_eq!(check_query(&PALLETS, 1), refused(11, 4));
+    assert_eq!(check_query(&BELOW, 0), ACCEPTED);
+    assert_eq!(check_query(&WITH_PALLETS, 0), ACCEPTED);
+    assert_eq!(check_query(&[0, 1, 0, 65535, 15, 0, 0, 0], 0), refused(10, 1));
+    assert_eq!(check_query(&[0, 1, 0, 65535, 13, 0, 1, 0], 0), refused(11, 1));
+    assert_eq!(check_query(&[12, 0, 0, 0, 13, 0, 0, 0], 1), refused(13, 1));
+    assert_eq!(check_query(&WITH_PALLETS[..16], 0), refused(14, 0));
 
     let found = |count| ImageReply { number: 0, place: 0, count };
     let no_image = |number, place| ImageReply { number, place, count: 0 };
@@ -302,6 +311,29 @@ fn main() {
     assert_eq!(image(gz_backwards, &PALLETS, &[1, 6], &[0, 0, 0, 1, 0, 0], &mut set), no_image(17, 1));
     assert_eq!(image(gz_backwards, &FOLLOWING, &[], &[0; 6], &mut set[..5]), no_image(20, 0));
     assert_eq!(set, [1, 0, 0, 0, 0, 0, 7, 7]);
+
+    // the star of a path, and same, either way
+    assert_eq!(image(gz_forwards, &BELOW, &[], &[0, 1, 0, 0, 0, 1], &mut set), found(4));
+    assert_eq!(set, [0, 1, 1, 1, 0, 1, 7, 7]);
+    assert_eq!(image(gz_backwards, &BELOW, &[], &[0, 0, 0, 1, 0, 0], &mut set), found(3));
+    assert_eq!(set, [1, 1, 0, 1, 0, 0, 7, 7]);
+    assert_eq!(image(gz_forwards, &WITH_PALLETS, &[], &[1; 6], &mut set), found(2));
+    assert_eq!(set, [0, 1, 0, 0, 1, 0, 7, 7]);
+    assert_eq!(image(gz_backwards, &WITH_PALLETS, &[], &[1; 6], &mut set), found(1));
+    assert_eq!(set, [1, 0, 0, 0, 0, 0, 7, 7]);
+    assert_eq!(image(gz_forwards, &WITH_PALLETS[4..16], &[], &[1; 6], &mut set), no_image(12, 2));
+    assert_eq!(image(gz_backwards, &[0, 1, 0, 65535, 0, 1, 0, 2, 14, 0, 1, 0], &[], &[1; 6], &mut set), no_image(15, 2));
+    assert_eq!(set, [1, 0, 0, 0, 0, 0, 7, 7]);
+    let (mut cells, mut words) = ([7; 38], [7; 26]);
+    assert_eq!(pairs(&BELOW, &[], &mut cells), ACCEPTED);
+    assert_eq!(pairs_bits(&WAREHOUSE, &BELOW, &[], &mut words), ACCEPTED);
+    for (x, row) in [0b111111, 0b001110, 0b000100, 0b001000, 0b110000, 0b100000].into_iter().enumerate() {
+        assert_eq!(cells[6 * x..][..6], [0, 1, 2, 3, 4, 5].map(|y| (row >> y & 1) as u8));
+        assert_eq!(words[4 * x..][..4], [row, 0, 0, 0]);
+    }
+    assert_eq!((&cells[36..], &words[24..]), (&[7; 2][..], &[7; 2][..]));
+    assert_eq!(pairs_bits(&WAREHOUSE, &WITH_PALLETS, &[], &mut words), ACCEPTED);
+    assert_eq!((words[0], &words[1..24], &words[24..]), (0b010010, &[0; 23][..], &[7; 2][..]));
 
     let mut table = [7; 38];
     assert_eq!(pairs(&CHILD, &[], &mut table[..35]), refused(20, 0));
@@ -406,6 +438,23 @@ fn main() {
     assert_eq!(quick_page(&WAREHOUSE, &PALLETS, 2, &mut cursor, &mut rows), counted(1, false, 12));
     assert_eq!((&rows[..2], cursor), (&[4, 5][..], Cursor { begun: 1, last: [4, 5, 9] }));
 
+    // a variable under a star or a same: a page takes it, and a quick page does not
+    let under_star = [6, 0, 0, 0, 13, 0, 0, 0];
+    let under_same = [0, 0, 0, 65534, 0, 1, 0, 3, 6, 0, 0, 0, 14, 1, 2, 0, 5, 0, 3, 0];
+    let (mut cursor, mut all) = (Cursor { begun: 0, last: [0, 8, 9] }, [7; 7]);
+    assert_eq!(quick_page(&WAREHOUSE, &under_star, 1, &mut cursor, &mut all), uncounted(29, 1));
+    assert_eq!(quick_page(&WAREHOUSE, &under_same, 1, &mut cursor, &mut []), uncounted(29, 3));
+    assert_eq!((all, cursor), ([7; 7], Cursor { begun: 0, last: [0, 8, 9] }));
+    assert_eq!(page(&under_star, 1, &mut cursor, &mut all), PageReply { number: 0, place: 0, count: 6, more: false });
+    assert_eq!((all, cursor), ([0, 1, 2, 3, 4, 5, 7], Cursor { begun: 1, last: [5, 8, 9] }));
+    cursor.begun = 0;
+    assert_eq!(page(&under_same, 1, &mut cursor, &mut all), PageReply { number: 0, place: 0, count: 3, more: false });
+    assert_eq!((all, cursor), ([2, 3, 5, 3, 4, 5, 7], Cursor { begun: 1, last: [5, 8, 9] }));
+    let beside = [6, 0, 0, 0, 0, 1, 0, 65535, 0, 5, 0, 3, 14, 1, 2, 0, 5, 0, 3, 0];
+    cursor.begun = 0;
+    assert_eq!(quick_page(&WAREHOUSE, &beside, 1, &mut cursor, &mut all), counted(2, false, 7));
+    assert_eq!((&all[..2], cursor), (&[1, 4][..], Cursor { begun: 1, last: [4, 8, 9] }));
+
     let (house, site): (&[u8], &[u8]) = (b"\x05store\x04hall\x03bay", b"\x06pallet");
     assert_eq!(name(house, site, 1), (ACCEPTED, &b"hall"[..]));
     let (reply, pallet) = name(house, site, 3);
@@ -450,7 +499,18 @@ fn main() {
     assert_eq!(image_on(gz_backwards, &DOCUMENT, &query[..4], &[], &[1, 0, 0, 0, 0, 0, 0], &mut set), found(0));
     assert_eq!(set, [0, 0, 0, 0, 0, 0, 0, 7]);
 
+    // the star of a path, and same
+    assert_eq!(read(b"(child::*)*", house, site, &mut query), ReadReply { number: 0, place: 0, count: 8, columns: 0 });
+    assert_eq!(query[..8], BELOW);
+    let text = b"child::*[child::* same descendant::pallet]";
+    assert_eq!(read(text, house, site, &mut query), ReadReply { number: 0, place: 0, count: 20, columns: 0 });
+    assert_eq!(query[..20], WITH_PALLETS);
+
     let before = query;
+    assert_eq!(read(b".[(child::bay or .)*]", house, site, &mut query), unread(24, 19));
+    assert_eq!(read(b"(child::bay)**", house, site, &mut query), unread(24, 13));
+    assert_eq!(read(b"child::bay same .", house, site, &mut query), unread(24, 11));
+    assert_eq!(read(b".[. same .. same $0]", house, site, &mut query), unread(24, 12));
     assert_eq!(read(b"child::node(", house, site, &mut query), unread(24, 12));
     assert_eq!(read(b"child::nodes()", house, site, &mut query), unread(24, 12));
     assert_eq!(read(b"child::node", house, site, &mut query), unread(25, 7));

@@ -150,12 +150,18 @@ static size_t taken(void *(*run)(void *))
 
 static int wrong;
 
+static void most(size_t *of, size_t number)
+{
+    if (number > *of)
+        *of = number;
+}
+
 /* The levels of the query, by the header's words: 1 for an entry without operands, and else one more than those of the operand
    that has the most. */
 static size_t levels(size_t e)
 {
     const uint16_t *f = query + 4 * e;
-    bool left = f[0] != 0 && f[0] != 6 && f[0] != 12, right = (1 <= f[0] && f[0] <= 5) || f[0] == 10 || f[0] == 11;
+    bool left = f[0] != 0 && f[0] != 6 && f[0] != 12, right = (1 <= f[0] && f[0] <= 5) || f[0] == 10 || f[0] == 11 || f[0] == 14;
     size_t a = left ? levels(f[1]) : 0, b = right ? levels(f[2]) : 0;
     return 1 + (a < b ? b : a);
 }
@@ -167,16 +173,23 @@ static void quick_at_most(const char *what, size_t expected)
 {
     size_t took = taken(quick) - taken(nothing);
     printf("%s, %zu levels: %zu bytes for a quick page\n", what, expected, took);
-    if (took > most_quick)
-        most_quick = took;
+    most(&most_quick, took);
     if (levels(entries - 1) != expected || took >= 13 * 1024 + (expected - 1) * 4096)
         wrong = 1;
 }
+
+/* The most that an evaluation took: in all, for one level, and for each level beyond that. */
+static size_t most_taken, most_one, most_level;
 
 static void at_most(const char *what, size_t expected)
 {
     size_t took = taken(evaluations) - taken(nothing), checked = taken(checks) - taken(nothing);
     printf("%s, %zu levels: %zu bytes, and %zu for the checks\n", what, expected, took, checked);
+    most(&most_taken, took);
+    if (expected == 1)
+        most(&most_one, took);
+    else if (took > most_one)
+        most(&most_level, (took - most_one) / (expected - 1));
     if (levels(entries - 1) != expected || took >= 9 * 1024 + (expected - 1) * 4096 || checked >= 1024)
         wrong = 1;
     quick_at_most(what, expected);
@@ -185,14 +198,14 @@ static void at_most(const char *what, size_t expected)
 /* The most that pairs in bits took. With the caller's table, which is lent, it stays below the table of bytes. */
 static size_t most_bits;
 
-static void in_bits(const char *what)
+static size_t in_bits(const char *what)
 {
     size_t took = taken(bits) - taken(nothing);
     printf("%s, %zu entries, in bits: %zu bytes\n", what, entries, took);
-    if (took > most_bits)
-        most_bits = took;
+    most(&most_bits, took);
     if (took + sizeof words >= sizeof cells)
         wrong = 1;
+    return took;
 }
 
 /* A text of some times a piece, a middle, and as many times the piece that closes it. */
@@ -242,27 +255,76 @@ static void balanced(uint16_t leaves, uint16_t kind)
         entry(kind, first, first + 1, 0);
 }
 
-/* The entries that are left become levels over the last path: paths from the root; a filter with nots around the path; or filters in
-   filters, each with a composition. */
-static void deepen(int form)
+/* Pieces of a path over another path, one over the other: the entries of a piece, kind and operands, and how many levels it adds. Operands
+   count from the path below, which is 0, through the piece's own entries; a step is self::*, which leads somewhere in every tree. */
+static const struct piece {
+    const char *name;
+    size_t levels, count;
+    uint16_t entries[6][3];
+} pieces[] = {{"from the root", 1, 1, {{7, 0}}},
+              {"compositions, leftwards", 1, 2, {{0}, {1, 0, 1}}},
+              {"compositions, rightwards", 1, 2, {{0}, {1, 1, 0}}},
+              {"unions, leftwards", 1, 2, {{0}, {2, 0, 1}}},
+              {"unions, rightwards", 1, 2, {{0}, {2, 1, 0}}},
+              {"intersections, leftwards", 1, 2, {{0}, {3, 0, 1}}},
+              {"intersections, rightwards", 1, 2, {{0}, {3, 1, 0}}},
+              {"differences, leftwards", 1, 2, {{0}, {4, 0, 1}}},
+              {"differences, rightwards", 1, 2, {{0}, {4, 1, 0}}},
+              {"filters in filters", 2, 3, {{8, 0}, {0}, {5, 2, 1}}},
+              {"compositions in filters", 3, 5, {{0}, {1, 0, 1}, {8, 2}, {0}, {5, 4, 3}}},
+              {"stars", 1, 1, {{13, 0}}},
+              {"stars from the root", 2, 2, {{7, 0}, {13, 1}}},
+              {"stars of compositions, leftwards", 2, 3, {{0}, {1, 0, 1}, {13, 2}}},
+              {"stars of compositions, rightwards", 2, 3, {{0}, {1, 1, 0}, {13, 2}}},
+              {"stars of unions", 2, 3, {{0}, {2, 0, 1}, {13, 2}}},
+              {"stars of intersections", 2, 3, {{0}, {3, 0, 1}, {13, 2}}},
+              {"stars of differences", 2, 3, {{0}, {4, 1, 0}, {13, 2}}},
+              {"stars left in compositions of stars", 2, 4, {{13, 0}, {0}, {13, 2}, {1, 1, 3}}},
+              {"stars in filters", 3, 4, {{13, 0}, {8, 1}, {0}, {5, 3, 2}}},
+              {"stars in filters, left in compositions", 4, 6, {{13, 0}, {8, 1}, {0}, {5, 3, 2}, {0}, {1, 4, 5}}},
+              {"same in filters, leftwards", 2, 4, {{0}, {14, 0, 1}, {0}, {5, 3, 2}}},
+              {"same in filters, rightwards", 2, 4, {{0}, {14, 1, 0}, {0}, {5, 3, 2}}},
+              {"same in filters, left in compositions", 3, 6, {{0}, {14, 0, 1}, {0}, {5, 3, 2}, {0}, {1, 4, 5}}},
+              {"same of stars in filters", 3, 6, {{13, 0}, {0}, {13, 2}, {14, 1, 3}, {0}, {5, 5, 4}}},
+              {"stars of filters by same", 3, 5, {{0}, {14, 0, 1}, {0}, {5, 3, 2}, {13, 4}}},
+              {"same under not in filters", 3, 5, {{0}, {14, 0, 1}, {9, 2}, {0}, {5, 4, 3}}}};
+#define PIECES (sizeof pieces / sizeof *pieces)
+
+/* As many of them over the last path as there is room for in a query of so many entries; answers how many levels they add. */
+static size_t deepen(const struct piece *piece, size_t most)
 {
-    while (form == 0 && entries < 64)
-        entry(7, (uint16_t)(entries - 1), 0, 0);
-    while (form == 2 && entries + 5 <= 64) {
+    size_t added = 0;
+    for (; entries + piece->count <= most; added += piece->levels) {
         uint16_t path = (uint16_t)(entries - 1);
-        entry(0, 5, 0, 65535);
-        entry(1, path, path + 1, 0);
-        entry(8, path + 2, 0, 0);
-        entry(0, 11, 0, 65535);
-        entry(5, path + 4, path + 3, 0);
+        for (size_t i = 0; i < piece->count; i++) {
+            const uint16_t *e = piece->entries[i];
+            bool right = (1 <= e[0] && e[0] <= 5) || e[0] == 14;
+            if (e[0] == 0)
+                entry(0, 0, 0, 65535);
+            else
+                entry(e[0], path + e[1], right ? path + e[2] : 0, 0);
+        }
     }
-    if (form == 1 && entries + 3 <= 64) {
+    return added;
+}
+
+/* The same of a piece by its number, or of a filter around the last path with as many nots as there is room for. */
+static void deepest(size_t i, size_t most)
+{
+    if (i < PIECES)
+        deepen(&pieces[i], most);
+    else if (entries + 3 <= most) {
         entry(8, (uint16_t)(entries - 1), 0, 0);
-        while (entries < 62)
+        while (entries + 2 < most)
             entry(9, (uint16_t)(entries - 1), 0, 0);
         entry(0, 1, 0, 65535);
-        entry(5, 62, 61, 0);
+        entry(5, (uint16_t)(entries - 1), (uint16_t)(entries - 2), 0);
     }
+}
+
+static const char *deepest_name(size_t i)
+{
+    return i < PIECES ? pieces[i].name : "not";
 }
 
 /* The shapes that keep most tables or nest deepest: 64 entries, or as many as the shape has. Each is tried bare and from the root. */
@@ -287,7 +349,9 @@ static void shapes_in_bits(void)
                 entry(kind, side ? next : before, side ? before : next, 0);
             }
             printf("%s: ", names[kind - 1]);
-            in_bits(side ? "rightwards" : "leftwards");
+            size_t took = in_bits(side ? "rightwards" : "leftwards");
+            if (kind == 1 && took >= 17 * 1024)
+                wrong = 1;
         }
         /* a filter at every join, with the joins before it inside: each filter holds a path of two operands */
         entries = 0;
@@ -346,32 +410,62 @@ static void shapes_in_bits(void)
     in_bits("and, or");
     /* some tables kept aside, and as many levels as there are entries left */
     for (uint16_t leaves = 1; leaves <= 32; leaves *= 2)
-        for (int form = 0; form < 3; form++) {
-            static const char *const names[] = {"from the root", "not", "filters in filters"};
+        for (size_t i = 0; i <= PIECES; i++) {
             entries = 0;
             balanced(leaves, 2);
-            deepen(form);
+            deepest(i, 64);
             printf("%u leaves in balance: ", leaves);
-            in_bits(names[form]);
+            in_bits(deepest_name(i));
         }
-    /* four tables kept aside while a filter with nots in it, on either side of them, is evaluated */
-    for (int side = 0; side < 2; side++) {
-        steps(1);
-        entry(8, 0, 0, 0);
-        while (entries < 32)
-            entry(9, (uint16_t)(entries - 1), 0, 0);
-        entry(0, 1, 0, 65535);
-        entry(5, 32, 31, 0);
-        for (uint16_t leaves = 1; leaves <= 8; leaves *= 2) {
-            uint16_t path = (uint16_t)(entries - 1);
-            balanced(leaves, 2);
-            uint16_t other = (uint16_t)(entries - 1);
-            entry(2, side ? other : path, side ? path : other, 0);
-        }
-        in_bits(side ? "not on the right of unions" : "not on the left of unions");
+    /* a star over each of 16 leaves in balance, and over each join of them */
+    for (uint16_t kind = 1; kind <= 4; kind++) {
+        uint16_t at[16], paths = 16;
+        steps(paths);
+        for (uint16_t i = 0; i < paths; i++)
+            entry(13, i, 0, 0), at[i] = (uint16_t)(entries - 1);
+        for (; paths > 1; paths /= 2)
+            for (uint16_t i = 0; i < paths / 2; i++) {
+                entry(kind, at[2 * i], at[2 * i + 1], 0);
+                entry(13, (uint16_t)(entries - 1), 0, 0);
+                at[i] = (uint16_t)(entries - 1);
+            }
+        in_bits("stars in balance");
     }
+    /* a same of two paths in balance, in a filter, and as many levels over it as there are entries left */
+    for (uint16_t left = 1; left <= 16; left *= 2)
+        for (uint16_t right = 1; right <= 16 && left + right < 32; right *= 2)
+            for (size_t i = 0; i <= PIECES; i++) {
+                entries = 0;
+                balanced(left, 1);
+                uint16_t path = (uint16_t)(entries - 1);
+                balanced(right, 2);
+                uint16_t test = (uint16_t)entries;
+                entry(14, path, test - 1, 0);
+                entry(0, 5, 0, 65535);
+                entry(5, test + 1, test, 0);
+                deepest(i, 64);
+                printf("a same of %u and %u leaves in balance: ", left, right);
+                in_bits(deepest_name(i));
+            }
+    /* two to five tables kept aside while a path of as many levels as there are entries left, on either side of them, is evaluated */
+    for (uint16_t largest = 2; largest <= 16; largest *= 2)
+        for (uint16_t kind = 1; kind <= 4; kind++)
+            for (size_t i = 0; i <= PIECES; i++)
+                for (int side = 0; side < 2; side++) {
+                    steps(1);
+                    deepest(i, 66 - 4 * (size_t)largest);
+                    for (uint16_t leaves = 1; leaves <= largest; leaves *= 2) {
+                        uint16_t path = (uint16_t)(entries - 1);
+                        balanced(leaves, 2);
+                        uint16_t other = (uint16_t)(entries - 1);
+                        entry(kind, side ? other : path, side ? path : other, 0);
+                    }
+                    printf("on the %s of %u leaves, kind %u: ", side ? "right" : "left", 2 * largest - 1, kind);
+                    in_bits(deepest_name(i));
+                }
     steps(1);
-    in_bits("one step");
+    if (in_bits("one step") >= 4096)
+        wrong = 1;
     printf("in bits at most %zu bytes\n", most_bits);
 }
 
@@ -420,6 +514,18 @@ static void shapes_with_variables(void)
             entry(5, (uint16_t)(entries - 1), (uint16_t)(entries - 2), 0);
             quick_at_most("is, in and or or", 22);
         }
+    /* and beside what may have none below it, on either side of a composition */
+    for (size_t i = 0; i < PIECES; i++)
+        for (int side = 0; side < 2; side++) {
+            entries = 0;
+            entry(0, 0, 0, 65535);
+            size_t added = deepen(&pieces[i], 62);
+            uint16_t path = (uint16_t)(entries - 1);
+            entry(6, 2, 0, 0);
+            entry(1, side ? path + 1 : path, side ? path : path + 1, 0);
+            printf("a variable beside ");
+            quick_at_most(pieces[i].name, 2 + added);
+        }
     printf("quick pages at most %zu bytes\n", most_quick);
 }
 
@@ -437,6 +543,12 @@ int main(void)
     nested("(.[/", 256, "", "", 24);
     nested("child::pallet union ", 51, ".", "", 26);
     nested("child::shelf/", 78, ".", "", 25);
+    nested("(", 63, ".", ")*", 0);
+    nested("(", 341, ".", ")*", 26);
+    nested("(", 341, ".", ")", 0);
+    nested(".[. same ", 15, ".", "]", 0);
+    nested(".[(.)* same (", 63, ".", ")*]", 26);
+    nested(".[(", 170, ".", ")*]", 26);
 
     indexed(1);
     indexed(2);
@@ -457,13 +569,6 @@ int main(void)
             at_most("one step", 1);
         }
 
-    /* a path of kinds 0 and 7 */
-    entries = 0;
-    entry(0, 0, 0, 65535);
-    for (uint16_t e = 1; e < 64; e++)
-        entry(7, e - 1, 0, 0);
-    at_most("from the root", 64);
-
     /* a filter with a node expression of kinds 8 and 9 */
     entries = 0;
     entry(0, 0, 0, 65535);
@@ -474,27 +579,13 @@ int main(void)
     entry(5, 62, 61, 0);
     at_most("not", 63);
 
-    /* paths in filters: each filter and its 'some' are two levels */
-    entries = 0;
-    entry(0, 0, 0, 65535);
-    for (uint16_t e = 1; e + 3 <= 64; e += 3) {
-        entry(8, e - 1, 0, 0);
+    /* each piece over itself, as often as there is room for it */
+    for (size_t i = 0; i < PIECES; i++) {
+        entries = 0;
         entry(0, 0, 0, 65535);
-        entry(5, e + 1, e, 0);
+        at_most(pieces[i].name, 1 + deepen(&pieces[i], 64));
     }
-    at_most("filters in filters", 43);
-
-    /* kinds 1 to 4 with the nesting on either side */
-    for (uint16_t kind = 1; kind <= 4; kind++)
-        for (int side = 0; side < 2; side++) {
-            entries = 0;
-            entry(0, 0, 0, 65535);
-            for (uint16_t e = 1; e + 2 <= 64; e += 2) {
-                entry(0, 0, 0, 65535);
-                entry(kind, side ? e : e - 1, side ? e - 1 : e, 0);
-            }
-            at_most("paths of two operands", 32);
-        }
     shapes_with_variables();
+    printf("at most %zu bytes, %zu for one level and %zu for each beyond it\n", most_taken, most_one, most_level);
     return wrong;
 }

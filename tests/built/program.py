@@ -194,10 +194,15 @@ TABLES = [
     ("65 entries", TREE, UNIONS, 1, refused(8)),
     ("64 entries", TREE, UNIONS[:-8] + [7, 62, 0, 0], 1, listed((x,) for x in range(6))),
     ("no variable", TREE, STAR, 0, refused(9)),
-    ("four variables and a bad kind", TREE, entry(0, 13, 0, 0, 0), 4, refused(9)),
-    ("a kind of 13", TREE, entry(3, 13, 0, 0, 0), 2, refused(10, 3)),
-    ("an axis of 13 before a kind of 13", TREE, changed(entry(0, 0, 13, 0, 2), 12, 13), 2, refused(10, 3)),
+    ("four variables and a bad kind", TREE, entry(0, 15, 0, 0, 0), 4, refused(9)),
+    ("a kind of 15", TREE, entry(3, 15, 0, 0, 0), 2, refused(10, 3)),
+    ("an axis of 13 before a kind of 15", TREE, changed(entry(0, 0, 13, 0, 2), 12, 15), 2, refused(10, 3)),
     ("an axis of 13", TREE, entry(0, 0, 13, 0, 2), 2, refused(11, 0)),
+    ("the query's filter as a star with a right field", TREE, entry(2, 13, 0, 1, 0), 2, refused(11, 2)),
+    ("the query's filter as a same with a tag field", TREE, entry(2, 14, 0, 0, 1), 2, refused(11, 2)),
+    ("a right field of a star", TREE, STAR + [13, 0, 1, 0], 1, refused(11, 1)),
+    ("a tag field of a star", TREE, STAR + [13, 0, 0, 65534], 1, refused(11, 1)),
+    ("a tag field of a same", TREE, STAR + STAR + STAR + [14, 0, 1, 65535, 5, 2, 3, 0], 1, refused(11, 3)),
     ("a composition's tag of 65534", TREE, entry(6, 1, 2, 5, 65534), 2, refused(11, 6)),
     ("an axis of 13 with node()", TREE, entry(3, 0, 13, 0, 65534), 2, refused(11, 3)),
     ("a variable that is not there", TREE, QUERY, 1, refused(11, 4)),
@@ -206,12 +211,23 @@ TABLES = [
     ("a tag field of a composition", TREE, entry(6, 1, 2, 5, 1), 2, refused(11, 6)),
     ("its own operand", TREE, entry(2, 5, 0, 2, 0), 2, refused(12, 2)),
     ("a later operand", TREE, entry(2, 5, 3, 1, 0), 2, refused(12, 2)),
+    ("a star of itself", TREE, STAR + [13, 1, 0, 0], 1, refused(12, 1)),
+    ("a later path of a same", TREE, STAR + [14, 0, 2, 0] + STAR + [5, 2, 1, 0], 1, refused(12, 1)),
     ("a path for a node expression", TREE, entry(5, 5, 3, 0, 0), 2, refused(13, 5)),
     ("a node expression for a path", TREE, entry(6, 1, 1, 5, 0), 2, refused(13, 6)),
+    ("the query's filter as a star of `is`", TREE, entry(2, 13, 1, 0, 0), 2, refused(13, 2)),
+    ("the query's filter as a same with `is`", TREE, entry(2, 14, 0, 1, 0), 2, refused(13, 2)),
+    ("a star of a node expression", TREE, [12, 0, 0, 0, 13, 0, 0, 0], 1, refused(13, 1)),
+    ("a same of a node expression and a path", TREE, STAR + [12, 0, 0, 0, 14, 1, 0, 0], 1, refused(13, 2)),
+    ("a same of a path and a node expression", TREE, STAR + [12, 0, 0, 0, 14, 0, 1, 0], 1, refused(13, 2)),
+    ("a star for a node expression", TREE, STAR + STAR + [13, 1, 0, 0, 5, 0, 2, 0], 1, refused(13, 3)),
+    ("a same for a path", TREE, STAR + STAR + STAR + [14, 1, 2, 0, 1, 0, 3, 0], 1, refused(13, 4)),
+    ("a path that a same has twice", TREE, STAR + STAR + [14, 1, 1, 0, 5, 0, 2, 0], 1, refused(14, 1)),
     ("an operand used twice, and one never", TREE, entry(6, 1, 2, 2, 0), 2, refused(14, 2)),
     ("an operand never used", TREE, STAR + STAR, 1, refused(14, 0)),
     ("a node expression for the query", TREE, [12, 0, 0, 0], 1, refused(15, 0)),
     ("a node expression for the query, last of two", TREE, STAR + [8, 0, 0, 0], 1, refused(15, 1)),
+    ("a same for the query", TREE, STAR + STAR + [14, 0, 1, 0], 1, refused(15, 2)),
 ]
 
 # Shared tables: two firms in one hall, each of their jobs by hand, and 5 to 8 of tables with owners and a party. CHAIN has 257 nodes.
@@ -264,7 +280,7 @@ PARTIES = [
     ("party 0, and no variable", FIRMS, QUERY, 0, 0, refused(31)),
     ("a party and a query of no entry", FIRMS, [], 2, 1, refused(8)),
     ("a party and no variable", FIRMS, QUERY, 0, 2, refused(9)),
-    ("a party and a kind of 13", FIRMS, entry(3, 13, 0, 0, 0), 2, 2, refused(10, 3)),
+    ("a party and a kind of 15", FIRMS, entry(3, 15, 0, 0, 0), 2, 2, refused(10, 3)),
     ("a party and a node expression for the query", FIRMS, [12, 0, 0, 0], 1, 1, refused(15, 0)),
     ("a document node and a party", changed(FIRMS, 1, 65534), STAR + [12, 0, 0, 0, 5, 0, 1, 0], 1, 1, listed((x,) for x in range(1, 7))),
     ("a hidden document node", changed(FIRMS, 10, 65534), QUERY, 2, 1, refused(7, 3)),
@@ -297,6 +313,44 @@ TESTS = [
     ("ancestor-or-self::node() with no document node", TREE, entry(3, 0, 12, 0, 65534), 2, [(1, 0), (1, 1), (4, 0), (4, 4)]),
 ]
 
+
+def starred(*path):
+    """.[. is $0]/(P)*[. is $1], of the entries of P, which stand first."""
+    at = len(path) // 4
+    return [*path, 13, at - 1, 0, 0] + DOT + [12, 0, 0, 0, 5, at + 1, at + 2, 0, 12, 1, 0, 0, 5, at, at + 4, 0, 1, at + 3, at + 5, 0]
+
+
+# The star of a path, and same. Each row by hand.
+EACH = [(x, x) for x in range(7)]
+GRANDCHILD = [0, 1, 0, 2, 0, 1, 0, 3, 1, 0, 1, 0]  # child::2/child::3
+TESTS += [
+    ("(child::*)* in one node", [65535, 1], starred(0, 1, 0, 65535), 2, [(0, 0)]),
+    ("(child::*)*", TREE, starred(0, 1, 0, 65535), 2,
+     [(0, y) for y in range(6)] + [(1, 1), (1, 2), (1, 3), (2, 2), (3, 3), (4, 4), (4, 5), (5, 5)]),
+    ("(child::*)* below a document node", DOCUMENT, starred(0, 1, 0, 65535), 2,
+     [(0, y) for y in range(7)] + [(1, y) for y in range(1, 7)] + [(2, 2), (2, 3), (2, 4), (3, 3), (4, 4), (5, 5), (5, 6), (6, 6)]),
+    ("(parent::*)*, which does not reach a document node", DOCUMENT, starred(0, 2, 0, 65535), 2,
+     sorted(EACH + PARENTS + [(3, 1), (4, 1), (6, 1)])),
+    ("(child::3)*", TREE, starred(0, 1, 0, 3), 2, sorted(EACH[:6] + [(1, 2), (1, 3), (4, 5)])),
+    ("(right::*)*", TREE, starred(0, 3, 0, 65535), 2, sorted(EACH[:6] + [(1, 4), (2, 3)])),
+    ("(child::9)*, which leads nowhere", TREE, starred(0, 1, 0, 9), 2, EACH[:6]),
+    ("((right::*)* union child::*)*", TREE, starred(0, 3, 0, 65535, 13, 0, 0, 0, 0, 1, 0, 65535, 2, 1, 2, 0), 2,
+     [(0, y) for y in range(6)] + [(1, y) for y in range(1, 6)] + [(2, 2), (2, 3), (3, 3), (4, 4), (4, 5), (5, 5)]),
+    ("/(child::*[. is $0])*/self::2, a variable under a star", TREE,
+     [0, 1, 0, 65535, 12, 0, 0, 0, 5, 0, 1, 0, 13, 2, 0, 0, 0, 0, 0, 2, 1, 3, 4, 0, 7, 5, 0, 0], 1, [(1,), (4,)]),
+    ("/(child::*[. is $0 or . is $1])*/self::3, two under a star", TREE,
+     [0, 1, 0, 65535, 12, 0, 0, 0, 12, 1, 0, 0, 11, 1, 2, 0, 5, 0, 3, 0, 13, 4, 0, 0, 0, 0, 0, 3, 1, 5, 6, 0, 7, 7, 0, 0], 2,
+     [(1, 2), (1, 3), (2, 1), (3, 1), (4, 5), (5, 4)]),
+    ("$0[child::2/child::3 same descendant::3]", TREE, GRANDCHILD + [0, 5, 0, 3, 14, 2, 3, 0, 6, 0, 0, 0, 5, 5, 4, 0], 1, [(0,)]),
+    ("$0[child::* same descendant::3]", TREE, [0, 1, 0, 65535, 0, 5, 0, 3, 14, 0, 1, 0, 6, 0, 0, 0, 5, 3, 2, 0], 1, [(1,), (4,)]),
+    ("$0[not(child::* same descendant::3)]", TREE,
+     [0, 1, 0, 65535, 0, 5, 0, 3, 14, 0, 1, 0, 9, 2, 0, 0, 6, 0, 0, 0, 5, 4, 3, 0], 1, [(0,), (2,), (3,), (5,)]),
+    (".[child::2/child::3 same $0], a variable under a same", TREE, GRANDCHILD + [6, 0, 0, 0, 14, 2, 3, 0] + DOT + [5, 5, 4, 0], 1,
+     [(2,), (3,), (5,)]),
+    (".[. is $0][child::3 same $1], the bays with their pallets", TREE,
+     [0, 1, 0, 3, 6, 1, 0, 0, 14, 0, 1, 0] + DOT + [12, 0, 0, 0, 5, 3, 4, 0, 5, 5, 2, 0], 2, [(1, 2), (1, 3), (4, 5)]),
+]
+
 # Answers of more than one page, and of whole pages: every row, those whose last variable is the one node with the tag 9, or
 # those of self::*[. is $0]/ancestor::*[. is $1].
 NINE = [65535, 9] + [n for k in range(31) for n in (0, 1)]
@@ -307,6 +361,8 @@ LONG = [
     ("three variables, one page of 1,024 rows", NINE, [0, 0, 0, 9, 12, 2, 0, 0, 5, 0, 1, 0], 3, itertools.product(range(32), range(32), [0])),
     ("two variables, a node and one above it", CHAIN[:-2], ABOVE, 2, ((x, y) for x in range(256) for y in range(x))),
     ("three variables, the third anywhere", CHAIN[:80], ABOVE, 3, ((x, y, z) for x in range(40) for y in range(x) for z in range(40))),
+    ("two variables, a node and one down to which children lead", CHAIN[:80], starred(0, 1, 0, 65535), 2,
+     ((x, y) for x in range(40) for y in range(x, 40))),
     ("one node", [65535, 1], STAR, 3, [(0, 0, 0)]),
     ("no row", TREE, [0, 0, 0, 9], 2, []),
 ]
@@ -321,7 +377,18 @@ THREE = [
      [0, 0, 0, 65534, 12, 0, 0, 0, 12, 1, 0, 0, 11, 1, 2, 0, 5, 0, 3, 0, 0, 1, 0, 65535, 12, 2, 0, 0, 5, 5, 6, 0, 1, 4, 7, 0]),
     ("(descendant::* except child::2)[. is $1]/$0[. is $2]", True,
      [0, 5, 0, 65535, 0, 1, 0, 2, 4, 0, 1, 0, 12, 1, 0, 0, 5, 2, 3, 0, 6, 0, 0, 0, 12, 2, 0, 0, 5, 5, 6, 0, 1, 4, 7, 0]),
+    (".[. is $0]/(child::*)*[. is $1]/$2[parent::1]", True,
+     starred(0, 1, 0, 65535) + [6, 2, 0, 0, 0, 2, 0, 1, 8, 9, 0, 0, 5, 8, 10, 0, 1, 7, 11, 0]),
+    (".[child::2/child::3 same descendant::3][. is $0]/$1/..[. is $2]", True,
+     GRANDCHILD + [0, 5, 0, 3, 14, 2, 3, 0] + DOT + [5, 5, 4, 0, 12, 0, 0, 0, 5, 6, 7, 0, 6, 1, 0, 0, 1, 8, 9, 0, 0, 2, 0, 65534,
+                                                     12, 2, 0, 0, 5, 11, 12, 0, 1, 10, 13, 0]),
     ("child::*[. is $0]/child::*[. is $1]/..[. is $0]", False, steps((1, 65535, 0), (1, 65535, 1), (2, 65534, 0))),
+    ("self::1/(child::*[. is $0 or . is $1])*/self::3[. is $2]", False,
+     [0, 0, 0, 1, 0, 1, 0, 65535, 12, 0, 0, 0, 12, 1, 0, 0, 11, 2, 3, 0, 5, 1, 4, 0, 13, 5, 0, 0, 1, 0, 6, 0, 0, 0, 0, 3, 12, 2, 0, 0,
+      5, 8, 9, 0, 1, 7, 10, 0]),
+    (".[child::*/$0 same descendant::*[. is $1]]/child::*[. is $2]", False,
+     [0, 1, 0, 65535, 6, 0, 0, 0, 1, 0, 1, 0, 0, 5, 0, 65535, 12, 1, 0, 0, 5, 3, 4, 0, 14, 2, 5, 0] + DOT
+     + [5, 7, 6, 0, 0, 1, 0, 65535, 12, 2, 0, 0, 5, 9, 10, 0, 1, 8, 11, 0]),
     (".[. is $0]/child::*[. is $1 and not(. is $2)]", False,
      [0, 0, 0, 65534, 12, 0, 0, 0, 5, 0, 1, 0, 0, 1, 0, 65535, 12, 1, 0, 0, 12, 2, 0, 0, 9, 5, 0, 0, 10, 4, 6, 0, 5, 3, 7, 0, 1, 2, 8, 0]),
     ("(descendant::2 except $2)[. is $0]/child::3[. is $1]", False,
@@ -360,19 +427,21 @@ def random_query(source, columns):
         return add(0, source.randrange(13), 0, source.choice([0, 1, 2, 3, 65534, 65534, 65535, 65535, 65535, 65535]))
 
     def path(depth):
-        kind = source.randrange(8) if depth else source.choice([0, 0, 0, 6])
+        kind = source.choice([0, 1, 2, 3, 4, 5, 6, 7, 13]) if depth else source.choice([0, 0, 0, 6])
         if kind == 0:
             return step()
         if kind < 5:
             return add(kind, path(depth - 1), path(depth - 1), 0)
         if kind == 5:
             return add(5, path(depth - 1), test(depth - 1), 0)
-        return add(6, source.randrange(columns), 0, 0) if kind == 6 else add(7, path(depth - 1), 0, 0)
+        return add(6, source.randrange(columns), 0, 0) if kind == 6 else add(kind, path(depth - 1), 0, 0)
 
     def test(depth):
-        kind = source.randrange(8, 13) if depth else 12
+        kind = source.choice([8, 9, 10, 11, 12, 14]) if depth else 12
         if kind == 8:
             return add(8, path(depth - 1), 0, 0)
+        if kind == 14:
+            return add(14, path(depth - 1), path(depth - 1), 0)
         if kind == 9:
             return add(9, test(depth - 1), 0, 0)
         return add(kind, test(depth - 1), test(depth - 1), 0) if kind < 12 else add(12, source.randrange(columns), 0, 0)
@@ -440,7 +509,7 @@ def random_jobs(count):
         problems.append("of %d random lists %d have no row and %d every row: too few have gaps" % (count, empty, full))
     if 20 * left_out < count:
         problems.append("of %d random jobs only %d have a star that leaves out a document node" % (count, left_out))
-    if len(kinds) < 13 or len(axes) < 13:
+    if len(kinds) < 15 or len(axes) < 13:
         problems.append("the random lists with gaps have only the kinds %s and the axes %s" % (sorted(kinds), sorted(axes)))
 
 

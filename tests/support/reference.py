@@ -24,6 +24,18 @@ def composed(p, q):
     return rows
 
 
+def closed(r):
+    """The star of a relation: from x to x, and to all that is reached from x by its pairs, one after the other."""
+    rows = []
+    for x in range(len(r)):
+        reached = fresh = 1 << x
+        while fresh:
+            fresh = image(r, fresh) & ~reached
+            reached |= fresh
+        rows.append(reached)
+    return rows
+
+
 class Tree:
     def __init__(self, table):
         self.parent, self.tag = table[0::2], table[1::2]
@@ -99,8 +111,12 @@ def evaluated(tree, query, assignment):
             value = a & b
         elif kind == 11:
             value = a | b
-        else:
+        elif kind == 12:
             value = 1 << assignment[left]
+        elif kind == 13:
+            value = closed(a)
+        else:
+            value = sum(1 << x for x in range(n) if a[x] & b[x])
         values.append(value)
     return values
 
@@ -112,13 +128,13 @@ def relation(tree, query, assignment=()):
 
 def breaking(query):
     """The lowest entry of a query table that breaks the rule of quick pages: a variable stands in both operands of a composition, a
-    filter or an `and`, or under an intersect, an except or a `not`. None where the query keeps the rule."""
+    filter or an `and`, or under an intersect, an except, a `not`, a star of a path or a `same`. None where the query keeps the rule."""
     under = []  # of each entry, the variables under it
     for e in range(0, len(query), 4):
         kind, left, right, _ = query[e : e + 4]
         a = under[left] if kind not in (0, 6, 12) else {left} if kind else set()
-        b = under[right] if kind in (1, 2, 3, 4, 5, 10, 11) else set()
-        if kind in (1, 5, 10) and a & b or kind in (3, 4, 9) and a | b:
+        b = under[right] if kind in (1, 2, 3, 4, 5, 10, 11, 14) else set()
+        if kind in (1, 5, 10) and a & b or kind in (3, 4, 9, 13, 14) and a | b:
             return e // 4
         under.append(a | b)
     return None

@@ -56,7 +56,7 @@ module _ (t q : List ℕ) (columns : ℕ) (c : Cursor) (room : ℕ) (v : Reply) 
       let some : 0 < entriesOf q = entries-some q 1 columns (passes .1 .0) in
       record {
         linked = record { tree = page-tree; siblings = linked };
-        path = record { within = omega arith; least = omega arith; most = omega (arith, last-path q 1 columns (passes .1 .0)) };
+        path = record { within = omega arith; sort = last-path q 1 columns (passes .1 .0) };
         least = columns-least q 1 columns (passes .1 .0);
         most = page-few;
         query = query-evaluable q 1 columns (passes .1 .0) t;

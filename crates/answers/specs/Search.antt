@@ -9,7 +9,7 @@ use Rattle.model.specs.QueryTable.{lastOf}
 use Rattle.model.specs.Accepted.{Below, Evaluable}
 use Rattle.model.specs.Answers.{Row, less, keep}
 use Rattle.steps.specs.Moves.{Linked}
-use Rattle.eval.specs.Evaluation.{OfKind}
+use Rattle.eval.specs.Evaluation.{Sorted}
 use Rattle.answers.specs.declared.Spot.{Spot}
 use Rattle.answers.specs.declared.Paged.{Paged}
 use Rattle.model.specs.declared.Cursor.{Cursor}
@@ -30,7 +30,7 @@ Stands n k s = s .there ≡ true → Below n (rowAt k s)
 -- a tree with its links, and a query of k variables that can be evaluated under every assignment to nodes
 pub record Searchable (t prev q : List ℕ) (k : ℕ) : Type 0 where
   pub linked : Linked t prev
-  pub path : OfKind q (lastOf q) 0 7
+  pub path : Sorted q (lastOf q) true
   pub least : 1 ≤ k
   pub most : k ≤ 3
   pub query : (row : Row) → length row ≡ k → Below (sizeOf t) row → Evaluable t q row

@@ -7,17 +7,16 @@ use mathlib.Core.Bool.{Bool, true, false, not, cond}
 use mathlib.Core.List.{List}
 use lib.ListN.{getD, set, replicate, length-set, length-replicate}
 use lib.Seq.{getD-set-same, getD-set-other}
-use lib.Dec.{ltb}
-use borrow.Author.Tests.{lt-ltb, le-ltb, not-true, not-false}
+use borrow.Author.Tests.{not-true, not-false}
 use Rattle.model.specs.declared.Entry.{Entry}
 use Rattle.model.specs.Sets.{bit}
 use Rattle.model.specs.Encoding.{size}
 use Rattle.model.specs.QueryTable.{entriesOf, kind, left, right, entry}
-use Rattle.model.specs.Checks.{hasLeft, hasRight}
-use Rattle.model.proofs.Booleans.{no-yes}
+use Rattle.model.specs.Kinds.{leftPath, rightPath, rightExpr, hasLeft, hasRight}
+use Rattle.model.proofs.Booleans.{no-yes, yes-right, or-left}
 use Rattle.model.proofs.Shaped.{left-lower, right-lower}
 use Rattle.model.specs.Accepted.{Shaped}
-use Rattle.aside.specs.Aside.{inTurn, asideIn, termAt, asideAt, CountsTo}
+use Rattle.aside.specs.Aside.{inTurn, twoTables, asideIn, termAt, asideAt, CountsTo}
 use Rattle.aside.proofs.Turns.{either-left, either-right, either-most}
 use Rattle.aside.proofs.Terms.{Form, form}
 use Rattle.aside.proofs.Terms.Form.{none!, one!, two! }
@@ -33,7 +32,7 @@ module _ (q : List ℕ) (ok : Shaped q) (e : ℕ) (em : e < entriesOf q) where
       go (one! a b l p) = no-yes h a
       go (two! a b l r p) = no-yes h a
 
-  -- with one: kinds 7, 8 and 9
+  -- with one: kinds 7, 8, 9 and 13
   pub aside-one : hasLeft (kind q e) ≡ true → hasRight (kind q e) ≡ false → asideAt q e ≡ asideAt q (left q e)
   unfolding asideIn
   aside-one h k = go (form q ok e em)
@@ -43,22 +42,22 @@ module _ (q : List ℕ) (ok : Shaped q) (e : ℕ) (em : e < entriesOf q) where
       go (one! a b l p) = ap asideIn p
       go (two! a b l r p) = no-yes k b
 
-  both-in : hasRight (kind q e) ≡ true → asideAt q e ≡ cond (ltb (kind q e) 5) (inTurn (asideAt q (left q e)) (asideAt q (right q e))) (max (asideAt q (left q e)) (asideAt q (right q e)))
+  both-in : hasRight (kind q e) ≡ true → asideAt q e ≡ cond (twoTables (kind q e)) (inTurn (asideAt q (left q e)) (asideAt q (right q e))) (max (asideAt q (left q e)) (asideAt q (right q e)))
   unfolding asideIn
   both-in h = go (form q ok e em)
     where
-      go : Form q e → asideAt q e ≡ cond (ltb (kind q e) 5) (inTurn (asideAt q (left q e)) (asideAt q (right q e))) (max (asideAt q (left q e)) (asideAt q (right q e)))
+      go : Form q e → asideAt q e ≡ cond (twoTables (kind q e)) (inTurn (asideAt q (left q e)) (asideAt q (right q e))) (max (asideAt q (left q e)) (asideAt q (right q e)))
       go (none! a b g p) = no-yes b h
       go (one! a b l p) = no-yes b h
       go (two! a b l r p) = ap asideIn p
 
-  -- with two that are tables: kinds 1 to 4
-  pub aside-two : hasRight (kind q e) ≡ true → kind q e < 5 → asideAt q e ≡ inTurn (asideAt q (left q e)) (asideAt q (right q e))
-  aside-two h l = both-in h ∙ rw (lt-ltb (kind q e) 5 l)
+  -- with two that are tables: kinds 1 to 4 and 14
+  pub aside-two : twoTables (kind q e) ≡ true → asideAt q e ≡ inTurn (asideAt q (left q e)) (asideAt q (right q e))
+  aside-two h = both-in (or-left (rightPath (kind q e)) (rightExpr (kind q e)) (yes-right (leftPath (kind q e)) (rightPath (kind q e)) h)) ∙ rw h
 
   -- with two of which one is a node expression: kinds 5, 10 and 11
-  pub aside-larger : hasRight (kind q e) ≡ true → 5 ≤ kind q e → asideAt q e ≡ max (asideAt q (left q e)) (asideAt q (right q e))
-  aside-larger h l = both-in h ∙ rw (le-ltb (kind q e) 5 l)
+  pub aside-larger : hasRight (kind q e) ≡ true → twoTables (kind q e) ≡ false → asideAt q e ≡ max (asideAt q (left q e)) (asideAt q (right q e))
+  aside-larger h l = both-in h ∙ rw l
 
   -- an operand keeps no more aside than its entry
 
@@ -69,10 +68,10 @@ module _ (q : List ℕ) (ok : Shaped q) (e : ℕ) (em : e < entriesOf q) where
       go : Form q e → asideAt q (left q e) ≤ asideAt q e
       go (none! a b g p) = no-yes a h
       go (one! a b l p) = omega (arith, ap asideIn p)
-      go (two! a b l r p) = omega (arith, ap asideIn p, either-left (ltb (kind q e) 5) (asideAt q (left q e)) (asideAt q (right q e)))
+      go (two! a b l r p) = omega (arith, ap asideIn p, either-left (twoTables (kind q e)) (asideAt q (left q e)) (asideAt q (right q e)))
 
   pub aside-right : hasRight (kind q e) ≡ true → asideAt q (right q e) ≤ asideAt q e
-  aside-right h = omega (arith, both-in h, either-right (ltb (kind q e) 5) (asideAt q (left q e)) (asideAt q (right q e)))
+  aside-right h = omega (arith, both-in h, either-right (twoTables (kind q e)) (asideAt q (left q e)) (asideAt q (right q e)))
 
   -- how many entries it has, from those of its operands
   pub size-at : size (termAt q e) ≡ 1 + (bit (hasLeft (kind q e)) * size (termAt q (left q e)) + bit (hasRight (kind q e)) * size (termAt q (right q e)))
@@ -94,7 +93,7 @@ aside-within q ok e em = go (suc e) e (omega arith) em
     at e em ih (two! a b l r p) =
         let x : asideAt q (left q e) ≤ left q e = ih (left q e) l in
         let y : asideAt q (right q e) ≤ right q e = ih (right q e) r in
-        omega (arith, both-in q ok e em b, either-most (ltb (kind q e) 5) (asideAt q (left q e)) (asideAt q (right q e)) e (omega arith) (omega arith))
+        omega (arith, both-in q ok e em b, either-most (twoTables (kind q e)) (asideAt q (left q e)) (asideAt q (right q e)) e (omega arith) (omega arith))
 
     go : (n e : ℕ) → e < n → e < entriesOf q → asideAt q e ≤ e
     go zero e h em = absurd (not-suc-le-zero h)
@@ -133,11 +132,11 @@ module _ {q : List ℕ} {e : ℕ} {f : Entry} (fe : f ≡ entry q e) (ok : Shape
         at-right : getD kept (f .right) 0 ≡ asideAt q (right q e)
         at-right = rw fe (c .at (right q e) (right-lower q ok e em has-right))
 
-        pub did-two : (o : ℕ) → o ≡ inTurn (getD kept (f .left) 0) (getD kept (f .right) 0) → f .kind < 5 → o ≡ asideAt q e
-        did-two o g l = g ∙ rw (at-left, at-right) (sym (aside-two q ok e em has-right (rw fe at l)))
+        pub did-two : (o : ℕ) → o ≡ inTurn (getD kept (f .left) 0) (getD kept (f .right) 0) → (m : Bool) → m ≡ twoTables (f .kind) → m ≡ true → o ≡ asideAt q e
+        did-two o g m s l = g ∙ rw (at-left, at-right) (sym (aside-two q ok e em (rw fe at (sym s) ∙ l)))
 
-        pub did-larger : (o : ℕ) → o ≡ max (getD kept (f .left) 0) (getD kept (f .right) 0) → 5 ≤ f .kind → o ≡ asideAt q e
-        did-larger o g l = g ∙ rw (at-left, at-right) (sym (aside-larger q ok e em has-right (rw fe at l)))
+        pub did-larger : (o : ℕ) → o ≡ max (getD kept (f .left) 0) (getD kept (f .right) 0) → (m : Bool) → m ≡ twoTables (f .kind) → m ≡ false → o ≡ asideAt q e
+        did-larger o g m s l = g ∙ rw (at-left, at-right) (sym (aside-larger q ok e em has-right (rw fe at (sym s) ∙ l)))
 
   pub right-index : (d : Bool) → d ≡ hasRight (f .kind) → not d ≡ false → f .right < 64
   right-index d r k = let l : right q e < e = right-lower q ok e em (rw fe at (sym r) ∙ not-false d k) in let m = ok .few in rw fe (omega arith)

@@ -5,17 +5,18 @@ use native.Mathlib.Numerals.{add-one}
 use native.Mathlib.Omega.{arith}
 use mathlib.Core.Path.{_≡_, refl, sym, ap, _∙_, subst}
 use mathlib.Core.Logic.{⊎-elim}
-use mathlib.Core.Bool.{_&&_}
+use mathlib.Core.Bool.{true, _&&_}
 use mathlib.Core.List.{List}
-use lib.Dec.{ltb, eqb}
+use lib.Dec.{eqb}
 use Rattle.model.specs.Sets.{bit}
 use Rattle.model.specs.Syntax.{Path}
 use Rattle.model.specs.Encoding.{Term, pathTerm, size}
 use Rattle.model.specs.QueryTable.{entriesOf, kind, left, right, entry, pathAt, lastOf}
-use Rattle.model.specs.Checks.{hasLeft, hasRight, naming, uses}
+use Rattle.model.specs.Kinds.{isPath, hasLeft, hasRight}
+use Rattle.model.specs.Checks.{naming, uses}
 use Rattle.model.proofs.Booleans.{lt-or-le}
 use Rattle.model.specs.Accepted.{Shaped}
-use Rattle.aside.specs.Aside.{asideIn, aside, entriesIn, termAt, asideAt}
+use Rattle.aside.specs.Aside.{twoTables, asideIn, aside, entriesIn, termAt, asideAt}
 use Rattle.aside.proofs.Turns.{either-power}
 use Rattle.aside.proofs.Terms.{term-path}
 use Rattle.model.proofs.Shaped.{left-lower, right-lower}
@@ -28,7 +29,7 @@ unfolding asideIn size
 powers (Term.leaf k l g) = omega arith
 powers (Term.unary k a) = let h : 2 ^ suc (asideIn a) ≤ size a + 1 = powers a in omega arith
 powers (Term.binary k a b) =
-    let h = either-power (ltb k 5) (asideIn a) (asideIn b) (size a + 1) (size b + 1) (powers a) (powers b) in
+    let h = either-power (twoTables k) (asideIn a) (asideIn b) (size a + 1) (size b + 1) (powers a) (powers b) in
     omega arith
 
 -- for the reader: the same of a path
@@ -85,7 +86,7 @@ module _ (q : List ℕ) (ok : Shaped q) where
         last (lastOf q) (omega arith) (λ i l. subst (λ (k : ℕ). uses q i k ≡ 1) (sym e) (once i l)) ∙ e
 
     -- for the reader: the query has as many entries as its table
-    pub entries-once : kind q (lastOf q) < 8 → entriesIn (pathAt q (lastOf q)) ≡ entriesOf q
+    pub entries-once : isPath (kind q (lastOf q)) ≡ true → entriesIn (pathAt q (lastOf q)) ≡ entriesOf q
     entries-once h = sym (ap size (term-path q (lastOf q) h)) ∙ made-last
 
     pub five-aside : asideAt q (lastOf q) ≤ 5

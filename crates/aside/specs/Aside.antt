@@ -2,11 +2,11 @@
 -- table aside, and evaluates the other.
 use Prim.Native.Nat.{ℕ, suc, _<_, min, max}
 use mathlib.Core.Path.{_≡_}
-use mathlib.Core.Bool.{cond}
+use mathlib.Core.Bool.{Bool, _&&_, cond}
 use mathlib.Core.List.{List}
 use lib.ListN.{length, getD}
-use lib.Dec.{ltb}
 use Rattle.model.specs.Syntax.{Path}
+use Rattle.model.specs.Kinds.{isPath, leftPath, rightPath}
 use Rattle.model.specs.Encoding.{Term, pathTerm, exprTerm, size}
 use Rattle.model.specs.QueryTable.{entriesOf, kind, pathAt, exprAt}
 
@@ -15,12 +15,16 @@ use Rattle.model.specs.QueryTable.{entriesOf, kind, pathAt, exprAt}
 abbrev pub inTurn : ℕ → ℕ → ℕ
 inTurn a b = max (max a b) (suc (min a b))
 
--- for a path or a node expression: of the kinds with two operands, 1 to 4 have two tables; the others have a node expression, which
--- comes to a set of nodes, so that there is no table to keep
+-- an operation on two tables: a kind whose operands are both paths
+abbrev pub twoTables : ℕ → Bool
+twoTables k = leftPath k && rightPath k
+
+-- for a path or a node expression: where one of two operands is a node expression, that comes to a set of nodes, so that there is no
+-- table to keep
 unfoldable pub asideIn : Term → ℕ
 asideIn (Term.leaf k l g) = 0
 asideIn (Term.unary k a) = asideIn a
-asideIn (Term.binary k a b) = cond (ltb k 5) (inTurn (asideIn a) (asideIn b)) (max (asideIn a) (asideIn b))
+asideIn (Term.binary k a b) = cond (twoTables k) (inTurn (asideIn a) (asideIn b)) (max (asideIn a) (asideIn b))
 
 -- for a path
 abbrev pub aside : Path → ℕ
@@ -32,7 +36,7 @@ entriesIn p = size (pathTerm p)
 
 -- entry e of a query table, a path or a node expression, by the kinds of the entries that it is made of
 unfoldable pub termAt : List ℕ → ℕ → Term
-termAt q e = cond (ltb (kind q e) 8) (pathTerm (pathAt q e)) (exprTerm (exprAt q e))
+termAt q e = cond (isPath (kind q e)) (pathTerm (pathAt q e)) (exprTerm (exprAt q e))
 
 -- for entry e of a query table
 abbrev pub asideAt : List ℕ → ℕ → ℕ

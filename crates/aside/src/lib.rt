@@ -4,7 +4,7 @@ ghost use mathlib.Core.Path.{_≡_};
 ghost use Prim.Native.Nat.{_<_, max};
 ghost use Rattle.model.specs.QueryTable.{entriesOf};
 ghost use Rattle.model.specs.Accepted.{Shaped};
-ghost use Rattle.aside.specs.Aside.{inTurn, asideAt, CountsTo, Counts};
+ghost use Rattle.aside.specs.Aside.{inTurn, twoTables, asideAt, CountsTo, Counts};
 
 // The tables aside for two operands that are evaluated in turn, both of them tables.
 fn in_turn(a: u8, b: u8) -> u8
@@ -18,6 +18,13 @@ fn in_turn(a: u8, b: u8) -> u8
         return a;
     }
     a + 1
+}
+
+// The operands of a kind are both tables.
+fn two_tables(k: usize) -> bool
+    ensures { λ r. ⌜ r ≡ twoTables k ⌝ }
+{
+    ((0 < k) & (k < 5)) | (k == 14)
 }
 
 // The larger of two numbers.
@@ -49,7 +56,8 @@ fn of_entry(query: &[u16], kept: [u8; 64], e: usize) -> u8
     }
     let j = f.right;
     let b = kept[j];
-    if k < 5 {
+    let tables = two_tables(k);
+    if tables {
         return in_turn(a, b);
     }
     larger(a, b)

@@ -3,56 +3,56 @@ use super::spans;
 use super::words;
 
 // Any name, and nothing at all.
-pub const NAME: usize = 35;
+pub const NAME: usize = 37;
 
-pub const EMPTY: usize = 36;
+pub const EMPTY: usize = 38;
 
-const AXIS: usize = 37;
+const AXIS: usize = 39;
 
-const NAME_TEST: usize = 38;
+const NAME_TEST: usize = 40;
 
-const NUMBER: usize = 39;
+const NUMBER: usize = 41;
 
-const PRIM: usize = 40;
+const PRIM: usize = 42;
 
-const FILTER: usize = 41;
+const FILTER: usize = 43;
 
-const FILTERS: usize = 42;
+const FILTERS: usize = 44;
 
-const STEP: usize = 43;
+const STEP: usize = 45;
 
-const SLASH: usize = 44;
+const SLASH: usize = 46;
 
-const RUN: usize = 45;
+const RUN: usize = 47;
 
-const MORE_RUN: usize = 46;
+const MORE_RUN: usize = 48;
 
-const ROOTED: usize = 47;
+const ROOTED: usize = 49;
 
-const INTER: usize = 48;
+const INTER: usize = 50;
 
-const MORE_INTER: usize = 49;
+const MORE_INTER: usize = 51;
 
-pub const PATH: usize = 50;
+pub const PATH: usize = 52;
 
-const MORE_PATH: usize = 51;
+const MORE_PATH: usize = 53;
 
-const UNIT: usize = 52;
+const UNIT: usize = 54;
 
-const CONJ: usize = 53;
+const CONJ: usize = 55;
 
-const MORE_CONJ: usize = 54;
+const MORE_CONJ: usize = 56;
 
-const TEST: usize = 55;
+const TEST: usize = 57;
 
-const MORE_TEST: usize = 56;
+const MORE_TEST: usize = 58;
 
 // A test that is no whole path.
-const PROPER: usize = 57;
+const PROPER: usize = 59;
 
 // Each rule: a symbol, and up to three of which a text of it is made, one behind the other. At one place, the first of the three
 // comes in the list before the rule, and each of the others starts later.
-const RULES: [[usize; 4]; 52] = [
+const RULES: [[usize; 4]; 54] = [
     [AXIS, 0, EMPTY, EMPTY],
     [AXIS, 1, EMPTY, EMPTY],
     [AXIS, 2, EMPTY, EMPTY],
@@ -77,6 +77,7 @@ const RULES: [[usize; 4]; 52] = [
     [PRIM, words::DOTS, EMPTY, EMPTY],
     [PRIM, words::DOLLAR, NUMBER, EMPTY],
     [PRIM, words::OPEN, PATH, words::CLOSE],
+    [PRIM, words::OPEN, PATH, words::CLOSE_STAR],
     [FILTER, words::OPEN_FILTER, TEST, words::CLOSE_FILTER],
     [FILTERS, EMPTY, EMPTY, EMPTY],
     [FILTERS, FILTER, FILTERS, EMPTY],
@@ -96,6 +97,7 @@ const RULES: [[usize; 4]; 52] = [
     [MORE_PATH, EMPTY, EMPTY, EMPTY],
     [MORE_PATH, words::UNION, PATH, EMPTY],
     [UNIT, PATH, EMPTY, EMPTY],
+    [UNIT, PATH, words::SAME, PATH],
     [UNIT, words::NOT, TEST, words::CLOSE],
     [UNIT, words::IS, NUMBER, EMPTY],
     [UNIT, words::OPEN, PROPER, words::CLOSE],
@@ -108,7 +110,7 @@ const RULES: [[usize; 4]; 52] = [
 ];
 
 fn row(rule: usize) -> [usize; 4] {
-    if rule < 52 {
+    if rule < 54 {
         return RULES[rule];
     }
     [EMPTY; 4]
@@ -140,7 +142,7 @@ fn add_proper(chart: &mut spans::Chart, place: usize) {
 // All symbols of the grammar's own at a place.
 pub fn add_all(chart: &mut spans::Chart, place: usize) {
     let mut rule = 0;
-    while rule < 52 {
+    while rule < 54 {
         add_rule(chart, rule, place);
         rule += 1;
     }

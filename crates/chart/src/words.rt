@@ -49,13 +49,17 @@ pub const IS: usize = 33;
 
 pub const ANY_NODE: usize = 34;
 
+pub const SAME: usize = 35;
+
+pub const CLOSE_STAR: usize = 36;
+
 // How many words there are.
-pub const COUNT: usize = 35;
+pub const COUNT: usize = 37;
 
 // What fills a word up to 20 bytes.
 const END: u8 = b'~';
 
-const WORDS: [[u8; 20]; 35] = [
+const WORDS: [[u8; 20]; 37] = [
     *b"self~~~~~~~~~~~~~~~~",
     *b"child~~~~~~~~~~~~~~~",
     *b"parent~~~~~~~~~~~~~~",
@@ -91,6 +95,8 @@ const WORDS: [[u8; 20]; 35] = [
     *b"not(~~~~~~~~~~~~~~~~",
     *b". is $~~~~~~~~~~~~~~",
     *b"node()~~~~~~~~~~~~~~",
+    *b" same ~~~~~~~~~~~~~~",
+    *b")*~~~~~~~~~~~~~~~~~~",
 ];
 
 // The bytes of a word, and END behind them.

@@ -10,13 +10,13 @@ use lib.Dec.{leb, ltb}
 use borrow.Author.Tests.{leb-true, leb-false, le-leb, lt-leb, lt-ltb, le-ltb, not-true}
 use Rattle.model.proofs.Booleans.{no-yes, yes-left, or-left, or-right, or-cases}
 use Rattle.model.specs.Encoding.{pathTerm, exprTerm}
-use Rattle.grammar.specs.Grammar.{Expr, Op, Slash, from, axes, variables, level, logical, fits}
+use Rattle.grammar.specs.Grammar.{Expr, Op, Slash, from, axes, variables, level, logical, makesTest, fits}
 use Rattle.grammar.specs.Grammar.Slash.{one, two}
-use Rattle.grammar.specs.Grammar.Op.{or, and, union, intersect, except, slash}
-use Rattle.grammar.specs.Grammar.Expr.{wildcard, named, dot, dots, variable, bracket, negate, is, filter, rooted, join}
+use Rattle.grammar.specs.Grammar.Op.{or, and, same, union, intersect, except, slash}
+use Rattle.grammar.specs.Grammar.Expr.{wildcard, named, dot, dots, variable, bracket, closure, negate, is, filter, rooted, join}
 use Rattle.grammar.specs.Online.{Choice}
 use Rattle.grammar.specs.Online.Choice.{choice}
-use Rattle.grammar.specs.Automaton.{Frame, Focus, State, takesTest, floor, opened, closed, isPath, isDot, isNamed, axisOf, longer, asNode, maySlash, slashed, mayFilter, filtered, mayParen, parenthesised, each, axisChoice, variableChoice, isChoice, mayJoin, joined, next, start, whole, outcomeAt}
+use Rattle.grammar.specs.Automaton.{Frame, Focus, State, takesTest, floor, opened, closed, isPath, isDot, isNamed, axisOf, longer, asNode, isGroup, asClosure, maySlash, slashed, mayFilter, filtered, mayParen, parenthesised, each, axisChoice, variableChoice, isChoice, mayJoin, joined, next, start, whole, outcomeAt}
 use Rattle.grammar.specs.Automaton.Frame.{left, lead, paren, negation, test}
 use Rattle.grammar.specs.Automaton.Focus.{want, axis, have}
 use Rattle.grammar.specs.Automaton.State.{state}
@@ -24,7 +24,7 @@ use Rattle.grammar.specs.Automaton.Outcome.{accepted, refused}
 use Rattle.grammar.specs.Typed.{belowBy, exprBy, pathBy, pathOf, below, exprOf}
 use Rattle.grammar.proofs.Choices.{Indexed, Every}
 use Rattle.grammar.proofs.Reading.{fits-path, floor-most}
-use Rattle.grammar.proofs.Soundness.{Fine, After, by-name, node-named, closing, joins-paths, path-closed}
+use Rattle.grammar.proofs.Soundness.{Fine, After, by-name, by-group, node-named, closing, joins-paths, path-closed}
 use Rattle.machine.specs.Machine.{opCode, isSlash, codesIn, codes, focusCode, top, binds, pops, sort}
 use Rattle.machine.proofs.Machine.{binds-op, binds-either, sort-op, closed-sort, opened-codes, focus-named, focus-dot, focus-path}
 use Rattle.entries.specs.Postfix.{Item, postfix}
@@ -41,7 +41,7 @@ double (paren ∷ fs) = false
 double (negation ∷ fs) = false
 double (test e ∷ fs) = false
 
-double-floor : (fs : List Frame) → double fs ≡ true → floor fs ≡ 5
+double-floor : (fs : List Frame) → double fs ≡ true → floor fs ≡ 6
 double-floor [] d = no-yes refl d
 double-floor (left l o ∷ fs) d = no-yes refl d
 double-floor (lead one ∷ fs) d = no-yes refl d
@@ -50,24 +50,26 @@ double-floor (paren ∷ fs) d = no-yes refl d
 double-floor (negation ∷ fs) d = no-yes refl d
 double-floor (test e ∷ fs) d = no-yes refl d
 
--- slashes bind at 5, and the other operators more loosely
-loose : (o : Op) → isSlash o ≡ false → level o ≤ 3
+-- slashes bind at 6, and the other operators more loosely
+loose : (o : Op) → isSlash o ≡ false → level o ≤ 4
 loose or h = omega arith
 loose and h = omega arith
+loose same h = omega arith
 loose union h = omega arith
 loose intersect h = omega arith
 loose except h = omega arith
 loose (slash s) h = no-yes h refl
 
-slash-level : (o : Op) → isSlash o ≡ true → level o ≡ 5
+slash-level : (o : Op) → isSlash o ≡ true → level o ≡ 6
 slash-level or h = no-yes refl h
 slash-level and h = no-yes refl h
+slash-level same h = no-yes refl h
 slash-level union h = no-yes refl h
 slash-level intersect h = no-yes refl h
 slash-level except h = no-yes refl h
 slash-level (slash s) h = refl
 
-join-sort : (o : Op) (l r : Expr) → not (ltb (opCode o) 2) ≡ isPath (join o l r)
+join-sort : (o : Op) (l r : Expr) → not (ltb (opCode o) 3) ≡ isPath (join o l r)
 unfolding isPath
 join-sort o l r = sort-op o
 
@@ -87,6 +89,7 @@ NamedBy P dot = Unit {0}
 NamedBy P dots = Unit {0}
 NamedBy P (variable k) = Unit {0}
 NamedBy P (bracket e) = Unit {0}
+NamedBy P (closure e) = Unit {0}
 NamedBy P (negate e) = Unit {0}
 NamedBy P (is k) = Unit {0}
 NamedBy P (filter e t) = Unit {0}
@@ -114,7 +117,7 @@ variable-items v f ks a g l =
 is-items : (v f : ℕ) (ks : List ℕ) (a g : ℕ) → v < 3 → wordItems f ks (20 + v) a g ≡ leaf 12 v 0 ∷ []
 unfolding wordItems
 is-items v f ks a g l =
-    rw (le-ltb (20 + v) 20 (omega arith), lt-ltb (20 + v) 33 (omega arith), lt-ltb (20 + v) 23 (omega arith))
+    rw (le-ltb (20 + v) 20 (omega arith), lt-ltb (20 + v) 34 (omega arith), lt-ltb (20 + v) 23 (omega arith))
     (ap (λ (i : ℕ). leaf 12 i 0 ∷ []) (let e : 20 + v - 20 ≡ v = omega arith in e))
 
 indexed-cons : (P : ℕ → State → Type 0) (k : ℕ) (a : Choice State) (l : List (Choice State)) → Indexed P k (a ∷ []) → Indexed P (suc k) l → Indexed P k (a ∷ l)
@@ -170,7 +173,7 @@ axis-on (state fs (have e)) = (
         λ m a p. filtered-axis (opened 0 fs) (closed 0 fs e) a m,
         (
           λ m a p. parenthesised-axis (opened 0 fs) (closed 0 fs e) a m,
-          (λ _ a p. tt, (λ _ a p. tt, (λ _ a p. tt, (λ _ a p. tt, (λ _ a p. tt, (λ _ a p. tt, (λ _ a p. tt, tt))))))),
+          (λ _ a p. tt, (λ _ a p. tt, (λ _ a p. tt, (λ _ a p. tt, (λ _ a p. tt, (λ _ a p. tt, (λ _ a p. tt, (λ _ a p. tt, (λ _ a p. tt, tt))))))))),
         ),
       ),
     ),
@@ -207,6 +210,7 @@ module _ (tag : List ℕ → ℕ) where
   test-value dots = refl
   test-value (variable k) = refl
   test-value (bracket e) = test-value e
+  test-value (closure e) = refl
   test-value (negate e) = sym (append-nil (testItems (negate e)))
   test-value (is k) = refl
   test-value (filter e t) = refl
@@ -214,6 +218,7 @@ module _ (tag : List ℕ → ℕ) where
   test-value (rooted two e) = refl
   test-value (join or l r) = sym (append-nil (testItems (join or l r)))
   test-value (join and l r) = sym (append-nil (testItems (join and l r)))
+  test-value (join same l r) = sym (append-nil (testItems (join same l r)))
   test-value (join union l r) = refl
   test-value (join intersect l r) = refl
   test-value (join except l r) = refl
@@ -224,7 +229,7 @@ module _ (tag : List ℕ → ℕ) where
   tested e a c = ap (λ (l : List Item). a ++ l) (ap (λ (l : List Item). l ++ c) (test-value e) ∙ append-assoc (value e) (asTest (isPath e)) c)
 
   -- behind '//' one step is composed with the step that '//' stands for
-  below-step : (e : Expr) → fits 6 false e ≡ true → belowItems e ≡ nodeStep 11 ∷ (pathItems e ++ (binary 1 ∷ []))
+  below-step : (e : Expr) → fits 7 false e ≡ true → belowItems e ≡ nodeStep 11 ∷ (pathItems e ++ (binary 1 ∷ []))
   unfolding fits belowBy pathBy pathTerm postfix
   below-step (wildcard a w) h = refl
   below-step (named a name) h = refl
@@ -232,12 +237,14 @@ module _ (tag : List ℕ → ℕ) where
   below-step dots h = refl
   below-step (variable k) h = refl
   below-step (bracket e) h = refl
+  below-step (closure e) h = refl
   below-step (negate e) h = no-yes refl h
   below-step (is k) h = no-yes refl h
   below-step (filter e t) h = refl
   below-step (rooted s e) h = no-yes refl h
   below-step (join or l r) h = no-yes refl h
   below-step (join and l r) h = no-yes refl h
+  below-step (join same l r) h = no-yes refl h
   below-step (join union l r) h = no-yes refl h
   below-step (join intersect l r) h = no-yes refl h
   below-step (join except l r) h = no-yes refl h
@@ -271,6 +278,7 @@ module _ (tag : List ℕ → ℕ) where
   unfoldable pub operand : Op → List Frame → Expr → List Item
   operand or fs l = testItems l
   operand and fs l = testItems l
+  operand same fs l = pathItems l
   operand union fs l = pathItems l
   operand intersect fs l = pathItems l
   operand except fs l = pathItems l
@@ -317,6 +325,7 @@ module _ (tag : List ℕ → ℕ) where
       go : (o : Op) → (not (logical o) ≡ true → isPath e ≡ true) → operand o fs x ++ (value e ++ gapItems (opCode o) (isPath e)) ≡ standing (isSlash o) fs (join o x e)
       go or p = unfold operand standing isPath exprBy exprTerm postfix in sym (tested e (testItems x) (binary 11 ∷ []))
       go and p = unfold operand standing isPath exprBy exprTerm postfix in sym (tested e (testItems x) (binary 10 ∷ []))
+      go same p = unfold operand standing isPath exprBy exprTerm postfix in plain (pathItems x) 14 (p refl)
       go union p = unfold operand standing isPath pathBy pathTerm postfix in plain (pathItems x) 2 (p refl)
       go intersect p = unfold operand standing isPath pathBy pathTerm postfix in plain (pathItems x) 3 (p refl)
       go except p = unfold operand standing isPath pathBy pathTerm postfix in plain (pathItems x) 4 (p refl)
@@ -326,16 +335,16 @@ module _ (tag : List ℕ → ℕ) where
   -- e stands in the gaps fs, and closes those that bind at n or tighter: it is a path wherever one is asked for, and one step behind '//'
   record Stands (run : Bool) (n : ℕ) (fs : List Frame) (e : Expr) : Type 0 where
     inRun : run ≡ true → isPath e ≡ true
-    tight : leb 5 n ≡ true → isPath e ≡ true
+    tight : leb 6 n ≡ true → isPath e ≡ true
     plain : takesTest fs ≡ false → isPath e ≡ true
-    single : run ≡ false → double fs ≡ true → fits 6 false e ≡ true
+    single : run ≡ false → double fs ≡ true → fits 7 false e ≡ true
 
   -- no gap closes
   stays : (n : ℕ) (r : Bool) (fs : List Frame) (e : Expr) → double fs ≡ false → Stands r n fs e
-      → emittedIn r fs ++ (standing r fs e ++ []) ≡ emittedIn (leb 5 n) fs ++ standing (leb 5 n) fs e
+      → emittedIn r fs ++ (standing r fs e ++ []) ≡ emittedIn (leb 6 n) fs ++ standing (leb 6 n) fs e
   stays n r fs e d s =
-      ap (λ (l : List Item). emittedIn r fs ++ l) (append-nil (standing r fs e) ∙ standing-plain r fs e d (s .inRun) ∙ sym (standing-plain (leb 5 n) fs e d (s .tight)))
-      ∙ ap (λ (l : List Item). l ++ standing (leb 5 n) fs e) (same-in r (leb 5 n) fs d)
+      ap (λ (l : List Item). emittedIn r fs ++ l) (append-nil (standing r fs e) ∙ standing-plain r fs e d (s .inRun) ∙ sym (standing-plain (leb 6 n) fs e d (s .tight)))
+      ∙ ap (λ (l : List Item). l ++ standing (leb 6 n) fs e) (same-in r (leb 6 n) fs d)
 
   regroup : (a o s g c d : List Item) → o ++ (s ++ g) ≡ d → (a ++ o) ++ (s ++ (g ++ c)) ≡ a ++ (d ++ c)
   regroup a o s g c d p = group ∙ ap (λ (l : List Item). a ++ (l ++ c)) p
@@ -346,20 +355,20 @@ module _ (tag : List ℕ → ℕ) where
   -- the gaps close
   abbrev Closes : ℕ → Bool → List Frame → Expr → Type 0
   Closes n r fs e =
-      emittedIn r fs ++ (standing r fs e ++ closeItems n (codesIn r fs) (isPath e)) ≡ emittedIn (leb 5 n) (opened n fs) ++ standing (leb 5 n) (opened n fs) (closed n fs e)
+      emittedIn r fs ++ (standing r fs e ++ closeItems n (codesIn r fs) (isPath e)) ≡ emittedIn (leb 6 n) (opened n fs) ++ standing (leb 6 n) (opened n fs) (closed n fs e)
 
-  join-stands : (n : ℕ) (o : Op) (x e : Expr) (fs : List Frame) → n ≤ level o → floor fs ≤ level o → (not (logical o) || takesTest fs) ≡ true
+  join-stands : (n : ℕ) (o : Op) (x e : Expr) (fs : List Frame) → n ≤ level o → floor fs ≤ level o → (not (makesTest o) || takesTest fs) ≡ true
       → Stands (isSlash o) n fs (join o x e)
   unfolding isPath
   join-stands n o x e fs l k h =
       record {
         inRun = λ p. let q = slash-level o p in joins-paths o (omega arith);
-        tight = λ p. let q : 5 ≤ n = leb-true 5 n p in joins-paths o (omega arith);
-        plain = λ p. ⊎-elim (λ q. q) (λ q. no-yes p q) (or-cases (not (logical o)) (takesTest fs) h);
+        tight = λ p. let q : 6 ≤ n = leb-true 6 n p in joins-paths o (omega arith);
+        plain = λ p. ⊎-elim (λ q. q) (λ q. no-yes p q) (or-cases (not (makesTest o)) (takesTest fs) h);
         single = λ p d. let q = double-floor fs d in let w = loose o p in absurd (omega arith);
       }
 
-  rooted-stands : (n : ℕ) (t : Slash) (e : Expr) (fs : List Frame) → floor fs ≤ 4 → Stands false n fs (rooted t e)
+  rooted-stands : (n : ℕ) (t : Slash) (e : Expr) (fs : List Frame) → floor fs ≤ 5 → Stands false n fs (rooted t e)
   unfolding isPath
   rooted-stands n t e fs k =
       record {
@@ -370,14 +379,14 @@ module _ (tag : List ℕ → ℕ) where
       }
 
   -- behind a leading '//': the gap of the first step, where it is still open, and that of the slash
-  lead-close : (n : ℕ) (r p : Bool) (ks : List ℕ) → n ≤ 5
-      → closeItems n (cond r (7 ∷ ks) (8 ∷ 7 ∷ ks)) p ≡ cond r [] (binary 1 ∷ []) ++ cond (leb n 4) ((unary 7 ∷ []) ++ closeItems n ks true) []
+  lead-close : (n : ℕ) (r p : Bool) (ks : List ℕ) → n ≤ 6
+      → closeItems n (cond r (8 ∷ ks) (9 ∷ 8 ∷ ks)) p ≡ cond r [] (binary 1 ∷ []) ++ cond (leb n 5) ((unary 7 ∷ []) ++ closeItems n ks true) []
   unfolding closeItems
   lead-close n true p ks l = refl
-  lead-close n false p ks l = rw (le-leb n 5 l)
+  lead-close n false p ks l = rw (le-leb n 6 l)
 
-  lead-stays : (n : ℕ) (fs : List Frame) (e : Expr) → leb 5 n ≡ true
-      → (emittedIn false fs ++ []) ++ belowItems e ≡ emittedIn (leb 5 n) (lead two ∷ fs) ++ standing (leb 5 n) (lead two ∷ fs) e
+  lead-stays : (n : ℕ) (fs : List Frame) (e : Expr) → leb 6 n ≡ true
+      → (emittedIn false fs ++ []) ++ belowItems e ≡ emittedIn (leb 6 n) (lead two ∷ fs) ++ standing (leb 6 n) (lead two ∷ fs) e
   unfolding emittedIn standing runItems
   lead-stays n fs e h = rw h
 
@@ -386,40 +395,40 @@ module _ (tag : List ℕ → ℕ) where
   root-one e c = sym (append-assoc (pathItems e) (unary 7 ∷ []) c)
 
   module _ (e : Expr) (plain : isPath e ≡ true) (a : List Item) where
-    rooted-items : (r : Bool) (c : List Item) → (r ≡ false → fits 6 false e ≡ true)
+    rooted-items : (r : Bool) (c : List Item) → (r ≡ false → fits 7 false e ≡ true)
         → (a ++ cond r [] (nodeStep 11 ∷ [])) ++ (cond r (belowItems e) (value e) ++ (cond r [] (binary 1 ∷ []) ++ ((unary 7 ∷ []) ++ c))) ≡ a ++ (pathItems (rooted two e) ++ c)
     unfolding pathBy pathTerm postfix
     rooted-items true c k = rw (append-nil a) (simp append-assoc)
     rooted-items false c k = rw (value-path e plain, below-step e (k refl)) (simp append-assoc)
 
-    step-items : (r : Bool) → (r ≡ false → fits 6 false e ≡ true)
+    step-items : (r : Bool) → (r ≡ false → fits 7 false e ≡ true)
         → (a ++ cond r [] (nodeStep 11 ∷ [])) ++ (cond r (belowItems e) (value e) ++ (cond r [] (binary 1 ∷ []) ++ [])) ≡ (a ++ []) ++ belowItems e
     step-items true k = rw (append-nil (belowItems e))
     step-items false k = rw (value-path e plain, below-step e (k refl)) (simp append-assoc)
 
-  closes : (fs : List Frame) (n : ℕ) (r : Bool) (e : Expr) → n ≤ 5 → Fine fs → Stands r n fs e → Closes n r fs e
+  closes : (fs : List Frame) (n : ℕ) (r : Bool) (e : Expr) → n ≤ 6 → Fine fs → Stands r n fs e → Closes n r fs e
   unfolding emittedIn opened closed codesIn closeItems standing runItems isPath
   closes [] n r e l f s = unfold emittedIn opened in stays n r [] e refl s
   closes (left x o ∷ fs) n r e l f s =
       go (leb n (level o)) (binds n (opCode o)) refl (binds-op n o) (λ q. closes fs n (isSlash o) (join o x e) l (f .3) (join-stands n o x e fs q (f .1) (f .2)))
     where
       go : (t u : Bool) → leb n (level o) ≡ t → u ≡ t → (n ≤ level o → Closes n (isSlash o) fs (join o x e))
-          → (emittedIn (isSlash o) fs ++ operand o fs x) ++ (standing r (left x o ∷ fs) e ++ cond u (gapItems (opCode o) (isPath e) ++ closeItems n (codesIn (isSlash o) fs) (not (ltb (opCode o) 2))) [])
-          ≡ emittedIn (leb 5 n) (cond t (opened n fs) (left x o ∷ fs)) ++ standing (leb 5 n) (cond t (opened n fs) (left x o ∷ fs)) (cond t (closed n fs (join o x e)) e)
+          → (emittedIn (isSlash o) fs ++ operand o fs x) ++ (standing r (left x o ∷ fs) e ++ cond u (gapItems (opCode o) (isPath e) ++ closeItems n (codesIn (isSlash o) fs) (not (ltb (opCode o) 3))) [])
+          ≡ emittedIn (leb 6 n) (cond t (opened n fs) (left x o ∷ fs)) ++ standing (leb 6 n) (cond t (opened n fs) (left x o ∷ fs)) (cond t (closed n fs (join o x e)) e)
       go true true p q ih =
-          ap (λ (l : List Item). (emittedIn (isSlash o) fs ++ operand o fs x) ++ (l ++ (gapItems (opCode o) (isPath e) ++ closeItems n (codesIn (isSlash o) fs) (not (ltb (opCode o) 2))))) (standing-plain r (left x o ∷ fs) e refl (s .inRun))
-          ∙ regroup (emittedIn (isSlash o) fs) (operand o fs x) (value e) (gapItems (opCode o) (isPath e)) (closeItems n (codesIn (isSlash o) fs) (not (ltb (opCode o) 2))) (standing (isSlash o) fs (join o x e)) (join-items o fs x e (λ h. s .plain (not-true (logical o) h)))
+          ap (λ (l : List Item). (emittedIn (isSlash o) fs ++ operand o fs x) ++ (l ++ (gapItems (opCode o) (isPath e) ++ closeItems n (codesIn (isSlash o) fs) (not (ltb (opCode o) 3))))) (standing-plain r (left x o ∷ fs) e refl (s .inRun))
+          ∙ regroup (emittedIn (isSlash o) fs) (operand o fs x) (value e) (gapItems (opCode o) (isPath e)) (closeItems n (codesIn (isSlash o) fs) (not (ltb (opCode o) 3))) (standing (isSlash o) fs (join o x e)) (join-items o fs x e (λ h. s .plain (not-true (logical o) h)))
           ∙ ap (λ (b : Bool). emittedIn (isSlash o) fs ++ (standing (isSlash o) fs (join o x e) ++ closeItems n (codesIn (isSlash o) fs) b)) (join-sort o x e)
           ∙ ih (leb-true n (level o) p)
       go true false p q ih = no-yes refl q
       go false true p q ih = no-yes q refl
       go false false p q ih = unfold emittedIn in stays n r (left x o ∷ fs) e refl s
-  closes (lead one ∷ fs) n r e l f s = go (leb n 4) refl (closes fs n false (rooted one e) l (f .1) (rooted-stands n one e fs (f .0)))
+  closes (lead one ∷ fs) n r e l f s = go (leb n 5) refl (closes fs n false (rooted one e) l (f .1) (rooted-stands n one e fs (f .0)))
     where
-      go : (t : Bool) → leb n 4 ≡ t
-          → emittedIn false fs ++ (pathItems (rooted one e) ++ closeItems n (codesIn false fs) true) ≡ emittedIn (leb 5 n) (opened n fs) ++ standing (leb 5 n) (opened n fs) (closed n fs (rooted one e))
+      go : (t : Bool) → leb n 5 ≡ t
+          → emittedIn false fs ++ (pathItems (rooted one e) ++ closeItems n (codesIn false fs) true) ≡ emittedIn (leb 6 n) (opened n fs) ++ standing (leb 6 n) (opened n fs) (closed n fs (rooted one e))
           → emittedIn false fs ++ (standing r (lead one ∷ fs) e ++ cond t ((unary 7 ∷ []) ++ closeItems n (codesIn false fs) true) [])
-          ≡ emittedIn (leb 5 n) (cond t (opened n fs) (lead one ∷ fs)) ++ standing (leb 5 n) (cond t (opened n fs) (lead one ∷ fs)) (cond t (closed n fs (rooted one e)) e)
+          ≡ emittedIn (leb 6 n) (cond t (opened n fs) (lead one ∷ fs)) ++ standing (leb 6 n) (cond t (opened n fs) (lead one ∷ fs)) (cond t (closed n fs (rooted one e)) e)
       go true p ih =
           ap (λ (l : List Item). emittedIn false fs ++ (l ++ ((unary 7 ∷ []) ++ closeItems n (codesIn false fs) true))) (standing-plain r (lead one ∷ fs) e refl (s .inRun) ∙ value-path e (s .plain refl))
           ∙ ap (λ (l : List Item). emittedIn false fs ++ l) (root-one e (closeItems n (codesIn false fs) true))
@@ -427,22 +436,22 @@ module _ (tag : List ℕ → ℕ) where
       go false p ih = unfold emittedIn in stays n r (lead one ∷ fs) e refl s
   closes (lead two ∷ fs) n r e l f s =
       ap (λ (c : List Item). (emittedIn false fs ++ cond r [] (nodeStep 11 ∷ [])) ++ (standing r (lead two ∷ fs) e ++ c)) (lead-close n r (isPath e) (codesIn false fs) l)
-      ∙ go (leb n 4) refl (closes fs n false (rooted two e) l (f .1) (rooted-stands n two e fs (f .0)))
+      ∙ go (leb n 5) refl (closes fs n false (rooted two e) l (f .1) (rooted-stands n two e fs (f .0)))
     where
-      go : (t : Bool) → leb n 4 ≡ t
-          → emittedIn false fs ++ (pathItems (rooted two e) ++ closeItems n (codesIn false fs) true) ≡ emittedIn (leb 5 n) (opened n fs) ++ standing (leb 5 n) (opened n fs) (closed n fs (rooted two e))
+      go : (t : Bool) → leb n 5 ≡ t
+          → emittedIn false fs ++ (pathItems (rooted two e) ++ closeItems n (codesIn false fs) true) ≡ emittedIn (leb 6 n) (opened n fs) ++ standing (leb 6 n) (opened n fs) (closed n fs (rooted two e))
           → (emittedIn false fs ++ cond r [] (nodeStep 11 ∷ [])) ++ (cond r (belowItems e) (value e) ++ (cond r [] (binary 1 ∷ []) ++ cond t ((unary 7 ∷ []) ++ closeItems n (codesIn false fs) true) []))
-          ≡ emittedIn (leb 5 n) (cond t (opened n fs) (lead two ∷ fs)) ++ standing (leb 5 n) (cond t (opened n fs) (lead two ∷ fs)) (cond t (closed n fs (rooted two e)) e)
+          ≡ emittedIn (leb 6 n) (cond t (opened n fs) (lead two ∷ fs)) ++ standing (leb 6 n) (cond t (opened n fs) (lead two ∷ fs)) (cond t (closed n fs (rooted two e)) e)
       go true p ih =
           rooted-items e (s .plain refl) (emittedIn false fs) r (closeItems n (codesIn false fs) true) (λ q. s .single q refl) ∙ ih
       go false p ih =
-          step-items e (s .plain refl) (emittedIn false fs) r (λ q. s .single q refl) ∙ lead-stays n fs e (le-leb 5 n (leb-false n 4 p))
+          step-items e (s .plain refl) (emittedIn false fs) r (λ q. s .single q refl) ∙ lead-stays n fs e (le-leb 6 n (leb-false n 5 p))
   closes (paren ∷ fs) n r e l f s = rw (binds-either n (takesTest fs)) (unfold emittedIn in stays n r (paren ∷ fs) e refl s)
   closes (negation ∷ fs) n r e l f s = unfold emittedIn in stays n r (negation ∷ fs) e refl s
   closes (test x ∷ fs) n r e l f s = unfold emittedIn in stays n r (test x ∷ fs) e refl s
 
   closes-value : (n : ℕ) (fs : List Frame) (e : Expr) → Closes n false fs e
-      → emittedIn false fs ++ (value e ++ closeItems n (codes fs) (isPath e)) ≡ emittedIn (leb 5 n) (opened n fs) ++ standing (leb 5 n) (opened n fs) (closed n fs e)
+      → emittedIn false fs ++ (value e ++ closeItems n (codes fs) (isPath e)) ≡ emittedIn (leb 6 n) (opened n fs) ++ standing (leb 6 n) (opened n fs) (closed n fs e)
   unfolding standing
   closes-value n fs e h = h
 
@@ -476,6 +485,7 @@ module _ (tag : List ℕ → ℕ) where
   pended dots a g p q = refl
   pended (variable k) a g p q = refl
   pended (bracket e) a g p q = append-nil (value (bracket e))
+  pended (closure e) a g p q = append-nil (value (closure e))
   pended (negate e) a g p q = append-nil (value (negate e))
   pended (is k) a g p q = append-nil (value (is k))
   pended (filter e t) a g p q = append-nil (value (filter e t))
@@ -504,14 +514,14 @@ module _ (tag : List ℕ → ℕ) where
   paren-items (lead s ∷ fs) d m = no-yes refl m
   paren-items (paren ∷ fs) d m = go (takesTest fs)
     where
-      go : (b : Bool) → emitted fs ++ value d ≡ (emitted fs ++ value d) ++ (asTest (wantsTest 26 (cond b 10 9) && isPath d) ++ lastItems 26 (cond b 10 9))
+      go : (b : Bool) → emitted fs ++ value d ≡ (emitted fs ++ value d) ++ (asTest (wantsTest 26 (cond b 11 10) && isPath d) ++ lastItems 26 (cond b 11 10))
       go true = sym (append-nil (emitted fs ++ value d))
       go false = sym (append-nil (emitted fs ++ value d))
   paren-items (negation ∷ fs) d m = behind-test d (emitted fs) (unary 9 ∷ [])
   paren-items (test x ∷ fs) d m = no-yes refl m
 
   -- an expression in its gaps, with what the machine knows of a name
-  module _ (fs : List Frame) (e : Expr) (fine : Fine fs) (fit : fits 6 (takesTest fs) e ≡ true) (a g : ℕ)
+  module _ (fs : List Frame) (e : Expr) (fine : Fine fs) (fit : fits 7 (takesTest fs) e ≡ true) (a g : ℕ)
       (on : OnAxis (state fs (have e)) a) (tagged : Tagged (state fs (have e)) g) where
     -- what has been read, with what is pending
     full : written (state fs (have e)) ++ pending (focusCode (have e)) a g ≡ emitted fs ++ value e
@@ -520,19 +530,19 @@ module _ (tag : List ℕ → ℕ) where
         (append-assoc (emitted fs) (cond (isNamed e || isDot e) [] (value e)) (cond (isNamed e) (leaf 0 a g ∷ []) (cond (isDot e) (nodeStep 0 ∷ []) []))
         ∙ ap (λ (l : List Item). emitted fs ++ l) (pended e a g on tagged))
 
-    stand : (n : ℕ) → (leb 5 n ≡ true → isPath e ≡ true) → Stands false n fs e
+    stand : (n : ℕ) → (leb 6 n ≡ true → isPath e ≡ true) → Stands false n fs e
     stand n h =
         record {
           inRun = λ p. no-yes refl p;
           tight = h;
-          plain = λ p. fits-path e 6 (subst (λ (b : Bool). fits 6 b e ≡ true) p fit);
-          single = λ p d. subst (λ (b : Bool). fits 6 b e ≡ true) (double-plain fs d) fit;
+          plain = λ p. fits-path e 7 (subst (λ (b : Bool). fits 7 b e ≡ true) p fit);
+          single = λ p d. subst (λ (b : Bool). fits 7 b e ≡ true) (double-plain fs d) fit;
         }
 
     -- and the gaps closed
-    shut : (n : ℕ) (rest : List Item) → n ≤ 5 → (leb 5 n ≡ true → isPath e ≡ true)
+    shut : (n : ℕ) (rest : List Item) → n ≤ 6 → (leb 6 n ≡ true → isPath e ≡ true)
         → written (state fs (have e)) ++ (pending (focusCode (have e)) a g ++ (closeItems n (codes fs) (ltb 2 (focusCode (have e))) ++ rest))
-        ≡ (emittedIn (leb 5 n) (opened n fs) ++ standing (leb 5 n) (opened n fs) (closed n fs e)) ++ rest
+        ≡ (emittedIn (leb 6 n) (opened n fs) ++ standing (leb 6 n) (opened n fs) (closed n fs e)) ++ rest
     shut n rest l h =
         group (written (state fs (have e))) (pending (focusCode (have e)) a g) (closeItems n (codes fs) (ltb 2 (focusCode (have e))))
         ∙ ap (λ (x : List Item). (x ++ closeItems n (codes fs) (ltb 2 (focusCode (have e)))) ++ rest) full
@@ -542,25 +552,25 @@ module _ (tag : List ℕ → ℕ) where
         group : (x y z : List Item) → x ++ (y ++ (z ++ rest)) ≡ ((x ++ y) ++ z) ++ rest
         group x y z = simp append-assoc
 
-        done : emitted fs ++ (value e ++ closeItems n (codes fs) (isPath e)) ≡ emittedIn (leb 5 n) (opened n fs) ++ standing (leb 5 n) (opened n fs) (closed n fs e)
+        done : emitted fs ++ (value e ++ closeItems n (codes fs) (isPath e)) ≡ emittedIn (leb 6 n) (opened n fs) ++ standing (leb 6 n) (opened n fs) (closed n fs e)
         done = closes-value n fs e (closes fs n false e l fine (stand n h))
 
     -- whether a path then stands in the innermost gap
-    kind : (n : ℕ) → leb n 4 ≡ true → isPath (closed n fs e) ≡ sort n (codes fs) (ltb 2 (focusCode (have e)))
-    kind n h = closed-sort fs false n e (le-leb n 5 (let q : n ≤ 4 = leb-true n 4 h in omega arith)) h ∙ ap (sort n (codes fs)) (sym (focus-path e))
+    kind : (n : ℕ) → leb n 5 ≡ true → isPath (closed n fs e) ≡ sort n (codes fs) (ltb 2 (focusCode (have e)))
+    kind n h = closed-sort fs false n e (le-leb n 6 (let q : n ≤ 5 = leb-true n 5 h in omega arith)) h ∙ ap (sort n (codes fs)) (sym (focus-path e))
 
-    closed-value : (n : ℕ) (rest : List Item) → leb n 4 ≡ true
+    closed-value : (n : ℕ) (rest : List Item) → leb n 5 ≡ true
         → (emitted (opened n fs) ++ value (closed n fs e)) ++ rest
         ≡ written (state fs (have e)) ++ (pending (focusCode (have e)) a g ++ (closeItems n (codes fs) (ltb 2 (focusCode (have e))) ++ rest))
     unfolding standing
     closed-value n rest h =
         ap (λ (b : Bool). (emittedIn b (opened n fs) ++ standing b (opened n fs) (closed n fs e)) ++ rest) (sym low) ∙ sym (shut n rest small (λ p. no-yes low p))
       where
-        small : n ≤ 5
-        small = let q : n ≤ 4 = leb-true n 4 h in omega arith
+        small : n ≤ 6
+        small = let q : n ≤ 5 = leb-true n 5 h in omega arith
 
-        low : leb 5 n ≡ false
-        low = let q : n ≤ 4 = leb-true n 4 h in lt-leb 5 n (omega arith)
+        low : leb 6 n ≡ false
+        low = let q : n ≤ 5 = leb-true n 5 h in lt-leb 6 n (omega arith)
 
     -- ']' and ')'
 
@@ -589,7 +599,7 @@ module _ (tag : List ℕ → ℕ) where
 
     -- operators: those of node expressions, those of paths, and the slash
 
-    logical-turn : (n : ℕ) → leb n 4 ≡ true
+    logical-turn : (n : ℕ) → leb n 5 ≡ true
         → emitted (opened n fs) ++ testItems (closed n fs e)
         ≡ written (state fs (have e)) ++ (pending (focusCode (have e)) a g ++ (closeItems n (codes fs) (ltb 2 (focusCode (have e))) ++ (asTest (sort n (codes fs) (ltb 2 (focusCode (have e)))) ++ [])))
     logical-turn n h =
@@ -598,7 +608,7 @@ module _ (tag : List ℕ → ℕ) where
         ∙ ap (λ (b : Bool). (emitted (opened n fs) ++ value (closed n fs e)) ++ (asTest b ++ [])) (kind n h)
         ∙ closed-value n (asTest (sort n (codes fs) (ltb 2 (focusCode (have e)))) ++ []) h
 
-    path-turn : (n : ℕ) → leb n 4 ≡ true → 2 ≤ n → isPath e ≡ true
+    path-turn : (n : ℕ) → leb n 5 ≡ true → 3 ≤ n → isPath e ≡ true
         → emitted (opened n fs) ++ pathItems (closed n fs e)
         ≡ written (state fs (have e)) ++ (pending (focusCode (have e)) a g ++ (closeItems n (codes fs) (ltb 2 (focusCode (have e))) ++ []))
     path-turn n h l p =
@@ -607,11 +617,11 @@ module _ (tag : List ℕ → ℕ) where
         ∙ closed-value n [] h
 
     slash-turn : isPath e ≡ true
-        → emittedIn true (opened 5 fs) ++ runItems (opened 5 fs) (closed 5 fs e)
-        ≡ written (state fs (have e)) ++ (pending (focusCode (have e)) a g ++ (closeItems 5 (codes fs) (ltb 2 (focusCode (have e))) ++ []))
+        → emittedIn true (opened 6 fs) ++ runItems (opened 6 fs) (closed 6 fs e)
+        ≡ written (state fs (have e)) ++ (pending (focusCode (have e)) a g ++ (closeItems 6 (codes fs) (ltb 2 (focusCode (have e))) ++ []))
     slash-turn p =
-        sym (append-nil (emittedIn true (opened 5 fs) ++ runItems (opened 5 fs) (closed 5 fs e)))
-        ∙ sym (unfold standing in shut 5 [] (omega arith) (λ _. p))
+        sym (append-nil (emittedIn true (opened 6 fs) ++ runItems (opened 6 fs) (closed 6 fs e)))
+        ∙ sym (unfold standing in shut 6 [] (omega arith) (λ _. p))
 
   -- a second slash, or a leading one
   slash-items : (fs : List Frame) → maySlash fs ≡ true → emitted (slashed fs) ≡ emitted fs ++ slashItems (top (codes fs))
@@ -619,6 +629,7 @@ module _ (tag : List ℕ → ℕ) where
   slash-items [] m = refl
   slash-items (left l or ∷ fs) m = sym (append-nil (emitted fs ++ testItems l))
   slash-items (left l and ∷ fs) m = sym (append-nil (emitted fs ++ testItems l))
+  slash-items (left l same ∷ fs) m = sym (append-nil (emitted fs ++ pathItems l))
   slash-items (left l union ∷ fs) m = sym (append-nil (emitted fs ++ pathItems l))
   slash-items (left l intersect ∷ fs) m = sym (append-nil (emitted fs ++ pathItems l))
   slash-items (left l except ∷ fs) m = sym (append-nil (emitted fs ++ pathItems l))
@@ -628,7 +639,7 @@ module _ (tag : List ℕ → ℕ) where
   slash-items (lead two ∷ fs) m = no-yes refl m
   slash-items (paren ∷ fs) m = go (takesTest fs)
     where
-      go : (b : Bool) → emitted fs ≡ emitted fs ++ slashItems (cond b 10 9)
+      go : (b : Bool) → emitted fs ≡ emitted fs ++ slashItems (cond b 11 10)
       go true = sym (append-nil (emitted fs))
       go false = sym (append-nil (emitted fs))
   slash-items (negation ∷ fs) m = sym (append-nil (emitted fs))
@@ -647,6 +658,13 @@ module _ (tag : List ℕ → ℕ) where
   named-axis : (e : Expr) (a : ℕ) → isNamed e ≡ true → NamedBy (λ b name. a ≡ b) e → axisOf e ≡ a
   named-axis e a n = by-name (λ (x : Expr). NamedBy (λ b name. a ≡ b) x → axisOf x ≡ a) (λ b name p. sym p) e n
 
+  -- '*' closes over the path that the bracket holds
+  closure-turn : (fs : List Frame) (e : Expr) → isGroup e ≡ true → written (state fs (have (asClosure e))) ≡ written (state fs (have e)) ++ (unary 13 ∷ [])
+  unfolding isPath pathBy pathTerm postfix
+  closure-turn fs e m =
+      by-group (λ (x : Expr). written (state fs (have (asClosure x))) ≡ written (state fs (have x)) ++ (unary 13 ∷ []))
+      (λ x p. rw p (sym (append-assoc (emitted fs) (pathItems x) (unary 13 ∷ [])))) e m
+
   want-turns : (fs : List Frame) → Every Emits (state fs want)
   unfolding next axes variables wordItems emittedIn isPath pathBy pathTerm postfix
   want-turns fs =
@@ -664,7 +682,7 @@ module _ (tag : List ℕ → ℕ) where
   unfolding wordItems isPath pathBy pathTerm postfix
   axis-turns fs b = (λ i h a g p q. refl, λ a g p q. ap (λ (j : ℕ). emitted fs ++ (leaf 0 j 65535 ∷ [])) (sym p))
 
-  have-turns : (fs : List Frame) (e : Expr) → Fine fs → fits 6 (takesTest fs) e ≡ true → Every Emits (state fs (have e))
+  have-turns : (fs : List Frame) (e : Expr) → Fine fs → fits 7 (takesTest fs) e ≡ true → Every Emits (state fs (have e))
   unfolding variables wordItems emittedIn operand mayJoin joined isPath pathBy exprBy pathTerm exprTerm postfix
   have-turns fs e f h = (
     λ n b k a g p q. pending-turn fs e (or-left (isNamed e) (isDot e) n) (longer e b) [] refl,
@@ -682,14 +700,17 @@ module _ (tag : List ℕ → ℕ) where
                   (
                     λ m a g p q. logical-turn fs e f h a g p q 1 refl,
                     (
-                      λ m a g p q. path-turn fs e f h a g p q 2 refl (omega arith) m,
+                      λ m a g p q. path-turn fs e f h a g p q 3 refl (omega arith) (yes-left (isPath e) (takesTest (opened 3 fs)) m),
                       (
-                        λ m a g p q. path-turn fs e f h a g p q 3 refl (omega arith) m,
+                        λ m a g p q. path-turn fs e f h a g p q 3 refl (omega arith) (yes-left (isPath e) true m),
                         (
-                          λ m a g p q. path-turn fs e f h a g p q 3 refl (omega arith) m,
+                          λ m a g p q. path-turn fs e f h a g p q 4 refl (omega arith) (yes-left (isPath e) true m),
                           (
-                            λ m a g p q. slash-turn fs e f h a g p q m,
-                            (λ m a g p q. node-turn (node-named e m) a p, tt),
+                            λ m a g p q. path-turn fs e f h a g p q 4 refl (omega arith) (yes-left (isPath e) true m),
+                            (
+                              λ m a g p q. slash-turn fs e f h a g p q (yes-left (isPath e) true m),
+                              (λ m a g p q. node-turn (node-named e m) a p, (λ m a g p q. closure-turn fs e m, tt)),
+                            ),
                           ),
                         ),
                       ),
@@ -720,7 +741,7 @@ module _ (tag : List ℕ → ℕ) where
   ends fs (have d) c e r p a g on tagged =
       ap (λ (l : List Item). written (state fs (have d)) ++ (pending (focusCode (have d)) a g ++ l)) (sym (append-nil (closeItems 0 (codes fs) (ltb 2 (focusCode (have d))))))
       ∙ sym (closed-value fs d (r .0) (r .1) a g on tagged 0 [] refl)
-      ∙ go (opened 0 fs) (closed 0 fs d) (closing fs 0 6 d (r .0) (omega arith) (floor-most fs) (r .1) .fit) p
+      ∙ go (opened 0 fs) (closed 0 fs d) (closing fs 0 7 d (r .0) (omega arith) (floor-most fs) (r .1) .fit) p
     where
       go : (gs : List Frame) (x : Expr) → fits 0 (takesTest gs) x ≡ true → whole gs x ≡ accepted e → (emitted gs ++ value x) ++ [] ≡ pathItems e
       go [] x h q =

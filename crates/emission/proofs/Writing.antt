@@ -33,8 +33,8 @@ wrote-two i j m n o v w = wrote-on (i ∷ []) (j ∷ []) m n o v w
 
 -- closing gap after gap
 
-pub inner : (n k : ℕ) → binds n k ≡ true → k < 9
-inner n k h = ltb-true k 9 (yes-left (ltb k 9) (leb n (getD (0 ∷ 1 ∷ 2 ∷ 3 ∷ 3 ∷ 5 ∷ 5 ∷ 4 ∷ 5 ∷ []) k 0)) h)
+pub inner : (n k : ℕ) → binds n k ≡ true → k < 10
+inner n k h = ltb-true k 10 (yes-left (ltb k 10) (leb n (getD (0 ∷ 1 ∷ 2 ∷ 3 ∷ 4 ∷ 4 ∷ 6 ∷ 6 ∷ 5 ∷ 6 ∷ []) k 0)) h)
 
 module _ (a : List ℕ) (d n : ℕ) (path : Bool) (m : Made) where
   -- left of the d gaps are still to see, p says whether a path stands in the innermost, and r has been made
@@ -57,10 +57,10 @@ module _ (a : List ℕ) (d n : ℕ) (path : Bool) (m : Made) where
       next : stackOf a left ≡ k ∷ stackOf a (left - 1)
       next = stack-some a left h ∙ ap (λ (i : ℕ). i ∷ stackOf a (left - 1)) (sym e)
 
-      pub closing-on : (s : Made) → binds n k ≡ true → Wrote (gapItems k p) r s → Closing (left - 1) (not (ltb k 2)) s
+      pub closing-on : (s : Made) → binds n k ≡ true → Wrote (gapItems k p) r s → Closing (left - 1) (not (ltb k 3)) s
       unfolding closeItems
       closing-on s b v =
-          let q = not (ltb k 2) in
+          let q = not (ltb k 3) in
           let rest = closeItems n (stackOf a (left - 1)) q in
           let all : closeItems n (stackOf a left) p ≡ gapItems k p ++ rest = ap (λ (l : List ℕ). closeItems n l p) next ∙ rw b in
           record {
@@ -87,10 +87,10 @@ module _ (a : List ℕ) (d n : ℕ) (path : Bool) (m : Made) where
 
 -- a gap that closes
 module _ (k : ℕ) (path : Bool) (m n o : Made) where
-  pub gap-lead : Wrote (Item.unary 7 ∷ []) n o → Wrote (asTest (ltb k 2 && path)) m n → eqb k 7 ≡ true → Wrote (gapItems k path) m o
+  pub gap-lead : Wrote (Item.unary 7 ∷ []) n o → Wrote (asTest (ltb k 2 && path)) m n → eqb k 8 ≡ true → Wrote (gapItems k path) m o
   gap-lead w v h = wrote-on (asTest (ltb k 2 && path)) (gapItem k ∷ []) m n o v (rw h w)
 
-  pub gap-joint : (g : ℕ) → Wrote (Item.binary (getD (11 ∷ 10 ∷ 2 ∷ 3 ∷ 4 ∷ 1 ∷ 1 ∷ 7 ∷ 1 ∷ []) g 0) ∷ []) n o → Wrote (asTest (ltb k 2 && path)) m n → g ≡ k → eqb k 7 ≡ false
+  pub gap-joint : (g : ℕ) → Wrote (Item.binary (getD (11 ∷ 10 ∷ 14 ∷ 2 ∷ 3 ∷ 4 ∷ 1 ∷ 1 ∷ 7 ∷ 1 ∷ []) g 0) ∷ []) n o → Wrote (asTest (ltb k 2 && path)) m n → g ≡ k → eqb k 8 ≡ false
       → Wrote (gapItems k path) m o
   gap-joint g w v e h = wrote-on (asTest (ltb k 2 && path)) (gapItem k ∷ []) m n o v (rw (h, sym e) w)
 
@@ -118,19 +118,23 @@ module _ (f : ℕ) (ks : List ℕ) (k axis tag : ℕ) (m n : Made) where
   unfolding wordItems
   word-want t w e h = rw (lt-ltb k 20 h) (subst (λ (j : ℕ). Wrote (wantItems j k) m n) e w)
 
-  pub word-have : Wrote (haveItems f ks k axis tag) m n → 20 ≤ k → k < 33 → Wrote (wordItems f ks k axis tag) m n
+  pub word-have : Wrote (haveItems f ks k axis tag) m n → 20 ≤ k → k < 34 → Wrote (wordItems f ks k axis tag) m n
   unfolding wordItems
-  word-have w h l = rw (le-ltb k 20 h, lt-ltb k 33 l) w
+  word-have w h l = rw (le-ltb k 20 h, lt-ltb k 34 l) w
 
-  pub word-step : (t : ℕ) → Wrote (Item.leaf 0 axis t ∷ []) m n → t ≡ unnamedTag k → 33 ≤ k → eqb k 34 ≡ false → Wrote (wordItems f ks k axis tag) m n
+  pub word-closure : Wrote (Item.unary 13 ∷ []) m n → 34 ≤ k → eqb k 35 ≡ true → Wrote (wordItems f ks k axis tag) m n
   unfolding wordItems
-  word-step t w q h e =
+  word-closure w h e = let l : 20 ≤ k = omega arith in rw (le-ltb k 20 l, le-ltb k 34 h, e) w
+
+  pub word-step : (t : ℕ) → Wrote (Item.leaf 0 axis t ∷ []) m n → t ≡ unnamedTag k → 34 ≤ k → eqb k 35 ≡ false → eqb k 36 ≡ false → Wrote (wordItems f ks k axis tag) m n
+  unfolding wordItems
+  word-step t w q h c e =
       let l : 20 ≤ k = omega arith in
-      rw (le-ltb k 20 l, le-ltb k 33 h, e) (subst (λ (j : ℕ). Wrote (Item.leaf 0 axis j ∷ []) m n) q w)
+      rw (le-ltb k 20 l, le-ltb k 34 h, c, e) (subst (λ (j : ℕ). Wrote (Item.leaf 0 axis j ∷ []) m n) q w)
 
-pub word-letter : (f : ℕ) (ks : List ℕ) (k axis tag : ℕ) (m : Made) → Sound m → 33 ≤ k → eqb k 34 ≡ true → Wrote (wordItems f ks k axis tag) m m
+pub word-letter : (f : ℕ) (ks : List ℕ) (k axis tag : ℕ) (m : Made) → Sound m → 34 ≤ k → eqb k 35 ≡ false → eqb k 36 ≡ true → Wrote (wordItems f ks k axis tag) m m
 unfolding wordItems
-word-letter f ks k axis tag m w h e = let l : 20 ≤ k = omega arith in rw (le-ltb k 20 l, le-ltb k 33 h, e) (wrote-none m w)
+word-letter f ks k axis tag m w h c e = let l : 20 ≤ k = omega arith in rw (le-ltb k 20 l, le-ltb k 34 h, c, e) (wrote-none m w)
 
 -- the end of the text
 pub end-items : (f : ℕ) (ks : List ℕ) (axis tag : ℕ) (m n o : Made) → Wrote (closeItems 0 ks (ltb 2 f)) n o → Wrote (pending f axis tag) m n → Wrote (endItems f ks axis tag) m o

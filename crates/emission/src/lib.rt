@@ -15,11 +15,11 @@ pub struct Closed {
     pub draft: entries::Draft,
 }
 
-// The kinds of the gaps 0 to 8.
-const KINDS: [u16; 9] = [11, 10, 2, 3, 4, 1, 1, 7, 1];
+// The kinds of the gaps 0 to 9.
+const KINDS: [u16; 10] = [11, 10, 14, 2, 3, 4, 1, 1, 7, 1];
 
-// How tightly the words 25 to 32 bind.
-const LEVELS: [usize; 8] = [0, 0, 0, 1, 2, 3, 3, 5];
+// How tightly the words 25 to 33 bind to their left.
+const LEVELS: [usize; 9] = [0, 0, 0, 1, 3, 3, 4, 4, 6];
 
 // A path becomes a node expression.
 fn put_test(
@@ -67,7 +67,7 @@ fn put_gap(
     operands: &mut [u16],
     d: entries::Draft,
 ) -> entries::Draft
-    requires { ⌜ Sound (made d (now table) (now operands)) × (k < 9) ⌝ }
+    requires { ⌜ Sound (made d (now table) (now operands)) × (k < 10) ⌝ }
     ensures { λ r.
         ⌜
         Wrote (gapItems k path) (made d (now (table .entry)) (now (operands .entry)))
@@ -75,7 +75,7 @@ fn put_gap(
         ⌝ }
 {
     let next = put_test((k < 2) & path, table, operands, d);
-    let lead = k == 7;
+    let lead = k == 8;
     if lead {
         return entries::put_unary(table, operands, next, 7);
     }
@@ -118,7 +118,7 @@ pub fn close_gaps(
         }
         let next = put_gap(k, is_path, table, operands, draft);
         draft = next;
-        is_path = !(k < 2);
+        is_path = !(k < 3);
         left = left - 1;
     }
     Closed {
@@ -144,11 +144,11 @@ fn put_pending(
         (made r (now (table .exit)) (now (operands .exit)))
         ⌝ }
 {
-    let name = 4 < f;
+    let name = 5 < f;
     if name {
         return put_step(axis, tag, table, operands, d);
     }
-    let dot = f == 4;
+    let dot = f == 5;
     if dot {
         return put_step(0, 65534, table, operands, d);
     }
@@ -164,12 +164,12 @@ fn put_slash(t: u8, table: &mut [u16], operands: &mut [u16], d: entries::Draft) 
         (made r (now (table .exit)) (now (operands .exit)))
         ⌝ }
 {
-    let after_step = t == 5;
+    let after_step = t == 6;
     if after_step {
         let next = put_step(11, 65534, table, operands, d);
         return entries::put_binary(table, operands, next, 1);
     }
-    let after_lead = t == 7;
+    let after_lead = t == 8;
     if after_lead {
         return put_step(11, 65534, table, operands, d);
     }
@@ -208,7 +208,7 @@ fn put_want(
 fn wants_test(k: usize, inner: u8) -> bool
     ensures { λ r. ⌜ r ≡ wantsTest k inner ⌝ }
 {
-    (k == 25) | (((k == 26) & (inner == 11)) | ((k == 27) | (k == 28)))
+    (k == 25) | (((k == 26) & (inner == 12)) | ((k == 27) | (k == 28)))
 }
 
 // A filter, or 'not'.
@@ -230,14 +230,14 @@ fn put_last(
     if filter {
         return entries::put_binary(table, operands, d, 5);
     }
-    let negation = (k == 26) & (inner == 11);
+    let negation = (k == 26) & (inner == 12);
     if negation {
         return entries::put_unary(table, operands, d, 9);
     }
     d
 }
 
-// The words 25 to 32.
+// The words 25 to 33.
 fn put_closing(
     stack: &[u8],
     depth: usize,
@@ -247,7 +247,7 @@ fn put_closing(
     operands: &mut [u16],
     d: entries::Draft,
 ) -> entries::Draft
-    requires { ⌜ (depth ≤ length (now stack)) × (25 ≤ k) × (k < 33) × Sound (made d (now table) (now operands)) ⌝ }
+    requires { ⌜ (depth ≤ length (now stack)) × (25 ≤ k) × (k < 34) × Sound (made d (now table) (now operands)) ⌝ }
     ensures { λ r.
         ⌜
         Wrote (closingItems f (stackOf (now (stack .entry)) depth) k) (made d (now (table .entry)) (now (operands .entry)))
@@ -261,7 +261,7 @@ fn put_closing(
     put_last(k, inner, table, operands, next)
 }
 
-// Word k behind an expression, save '()'.
+// Word k behind an expression, save '()' and '*'.
 fn put_have(
     stack: &[u8],
     depth: usize,
@@ -273,7 +273,7 @@ fn put_have(
     operands: &mut [u16],
     d: entries::Draft,
 ) -> entries::Draft
-    requires { ⌜ (depth ≤ length (now stack)) × (20 ≤ k) × (k < 33) × Sound (made d (now table) (now operands)) ⌝ }
+    requires { ⌜ (depth ≤ length (now stack)) × (20 ≤ k) × (k < 34) × Sound (made d (now table) (now operands)) ⌝ }
     ensures { λ r.
         ⌜
         Wrote (haveItems f (stackOf (now (stack .entry)) depth) k axis tag) (made d (now (table .entry)) (now (operands .entry)))
@@ -295,11 +295,11 @@ fn put_have(
     put_closing(stack, depth, f, k, table, operands, next)
 }
 
-// The tag of a step without a name: node() ends with word 33, the star is 35.
+// The tag of a step without a name: node() ends with word 34, the star is 37.
 fn unnamed_tag(k: usize) -> u16
     ensures { λ r. ⌜ r ≡ unnamedTag k ⌝ }
 {
-    let node = k == 33;
+    let node = k == 34;
     if node {
         return 65534;
     }
@@ -318,7 +318,7 @@ pub fn write_word(
     operands: &mut [u16],
     d: entries::Draft,
 ) -> entries::Draft
-    requires { ⌜ (depth ≤ length (now stack)) × (k < 36) × Sound (made d (now table) (now operands)) ⌝ }
+    requires { ⌜ (depth ≤ length (now stack)) × (k < 38) × Sound (made d (now table) (now operands)) ⌝ }
     ensures { λ r.
         ⌜
         Wrote (wordItems f (stackOf (now (stack .entry)) depth) k axis tag) (made d (now (table .entry)) (now (operands .entry)))
@@ -329,10 +329,14 @@ pub fn write_word(
         let t = machine::innermost(stack, depth, 0);
         return put_want(t, k, table, operands, d);
     }
-    if k < 33 {
+    if k < 34 {
         return put_have(stack, depth, f, k, axis, tag, table, operands, d);
     }
-    let letter = k == 34;
+    let closure = k == 35;
+    if closure {
+        return entries::put_unary(table, operands, d, 13);
+    }
+    let letter = k == 36;
     if letter {
         return d;
     }

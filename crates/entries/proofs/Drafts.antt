@@ -8,8 +8,9 @@ use lib.ListN.{length, getD, set, take, drop, length-set}
 use lib.Seq.{sets-eq, length-sets}
 use lib.Dec.{ltb, eqb}
 use borrow.Author.Tests.{ltb-true, lt-ltb, le-ltb}
-use Rattle.model.specs.Checks.{namesVariable}
+use Rattle.model.specs.Kinds.{namesVariable}
 use Rattle.model.proofs.Booleans.{Seen, yes!, no!, seen}
+use Rattle.model.proofs.KindTests.{names-variable-by}
 use Rattle.model.specs.Encoding.{entry4}
 use Rattle.entries.specs.declared.Draft.{Draft}
 use Rattle.entries.specs.Postfix.{Item, Made, put, entered, full, past, operand, needing, append, appendAll, made, Sound, Wrote}
@@ -61,12 +62,10 @@ wrote-one i m n e w = record { whole = e; sound = subst Sound (sym e) (append-so
 
 -- the variables that are needed
 pub needed-variable : (c k l w r : ℕ) → r ≡ max c (w + 1) → w ≡ l → (eqb k 6 || eqb k 12) ≡ true → r ≡ max c (cond (namesVariable k) (suc l) 0)
-unfolding namesVariable
-needed-variable c k l w r e p h = rw h (omega arith)
+needed-variable c k l w r e p h = rw (names-variable-by k, h) (omega arith)
 
 pub needed-none : (c k l : ℕ) → (eqb k 6 || eqb k 12) ≡ false → c ≡ max c (cond (namesVariable k) (suc l) 0)
-unfolding namesVariable
-needed-none c k l h = rw h (omega arith)
+needed-none c k l h = rw (names-variable-by k, h) (omega arith)
 
 pub entered-is : (d : Draft) (t o t′ : List ℕ) (k l r g at : ℕ) → t′ ≡ put (4 * d .entries) (entry4 k l r g) t
     → made (record { entries = d .entries + 1; depth = at + 1; columns = d .columns }) t′ (set o at (d .entries)) ≡ entered k l r g at (made d t o)

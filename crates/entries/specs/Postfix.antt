@@ -6,7 +6,7 @@ use mathlib.Core.Bool.{cond}
 use mathlib.Core.List.{List, [], _∷_, _++_}
 use lib.ListN.{getD, set, take, drop, length}
 use lib.Dec.{ltb}
-use Rattle.model.specs.Checks.{namesVariable}
+use Rattle.model.specs.Kinds.{namesVariable}
 use Rattle.model.specs.Encoding.{Term, entry4}
 use Rattle.entries.specs.declared.Draft.{Draft}
 

@@ -4,7 +4,7 @@ ghost use mathlib.Core.Bool.{cond};
 ghost use mathlib.Core.List.{[], _∷_};
 ghost use Prim.Native.Nat.{_+_, _-_, _*_, _<_, suc, max};
 ghost use lib.ListN.{length};
-ghost use Rattle.model.specs.Checks.{namesVariable};
+ghost use Rattle.model.specs.Kinds.{namesVariable};
 ghost use Rattle.model.specs.Encoding.{entry4};
 ghost use Rattle.entries.specs.Postfix.Item.{leaf, unary, binary};
 ghost use Rattle.entries.specs.Postfix.{put, entered, made, past, blank, Sound, Wrote};

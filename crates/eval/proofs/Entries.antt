@@ -10,22 +10,23 @@ use lib.ListN.{getD}
 use lib.Dec.{ltb}
 use borrow.Author.Tests.{le-ltb}
 use Rattle.model.specs.declared.Entry.{Entry}
-use Rattle.model.specs.Sets.{any, tab, ones, memb, upto, turn, image}
+use Rattle.model.specs.Sets.{any, tab, ones, memb, upto, turn, closed, image}
 use Rattle.model.specs.Tree.{treeOf, sizeOf}
 use Rattle.model.specs.Axes.{steps}
 use Rattle.model.specs.Syntax.{Path, NodeExpr}
-use Rattle.model.specs.Syntax.Path.{step, compose, filter, fromRoot}
-use Rattle.model.specs.Syntax.NodeExpr.{exists, negate, both, either, is}
+use Rattle.model.specs.Syntax.Path.{step, compose, filter, fromRoot, closure}
+use Rattle.model.specs.Syntax.NodeExpr.{exists, negate, both, either, is, same}
 use Rattle.model.specs.Meaning.{pairsOver, holdsOver, pairs, holds}
 use Rattle.model.specs.QueryTable.{kind, left, right, tag, entry, entriesOf, pathAt, exprAt}
-use Rattle.model.specs.Checks.{leftPath, leftExpr, rightPath, rightExpr, namesVariable}
+use Rattle.model.specs.Kinds.{leftPath, leftExpr, rightPath, rightExpr, namesVariable}
 use Rattle.model.specs.Results.{assigned, related}
 use Rattle.model.proofs.Exists.{any-cong, any-next, and-any}
 use Rattle.model.proofs.Bytes.{tab-cong, memb-yes, memb-no, memb-tab}
 use Rattle.model.proofs.Counts.{ones-bytes, ones-one}
-use Rattle.model.proofs.QueryTable.{at-step, at-compose, at-union, at-intersect, at-except, at-filter, at-variable, at-root, at-exists, at-negate, at-both, at-either, at-is}
+use Rattle.model.proofs.QueryTable.{at-step, at-compose, at-union, at-intersect, at-except, at-filter, at-variable, at-root, at-exists, at-negate, at-both, at-either, at-is, at-closure, at-same}
+use Rattle.model.proofs.Closure.{closed-turn}
 use Rattle.sets.specs.NodeSets.{always, only, combine, combination}
-use Rattle.sets.proofs.Images.{memb-upto, upto-cong, only-upto, combine-upto, trim-upto, image-cong, image-turned, image-compose, image-or, image-keep, image-kept, image-all, image-one}
+use Rattle.sets.proofs.Images.{memb-upto, upto-cong, only-upto, combine-upto, trim-upto, image-cong, image-from, image-turned, image-compose, image-or, image-keep, image-kept, image-all, image-one}
 use Rattle.eval.specs.Evaluation.{Ready, passing, passed, reached, row, joined, ending}
 use Rattle.eval.proofs.Calls.{left-path, right-path, left-expr, right-expr, path-on-left, path-on-right, variable-small}
 
@@ -123,10 +124,10 @@ module _ {t v q nodes : List ℕ} {e : ℕ} (ok : Ready t v q nodes) (em : e < e
   is-joined b x y l h = turned b
     where
       left-lower : left q e < e
-      left-lower = ok .query .left-path e em (path-on-left (omega arith) (omega arith)) .0
+      left-lower = ok .query .formed .left-path e em (path-on-left (omega arith) (omega arith)) .0
 
       right-lower : right q e < e
-      right-lower = ok .query .right-path e em (path-on-right (omega arith) (omega arith)) .0
+      right-lower = ok .query .formed .right-path e em (path-on-right (omega arith) (omega arith)) .0
 
       cases : (k : ℕ) → 2 ≤ k → k ≤ 4 → (k ≡ 2) ⊎ ((k ≡ 3) ⊎ (k ≡ 4))
       cases k l h = ⊎-elim (λ e. inl (sym e)) (λ m. inr (⊎-elim (λ e. inl (sym e)) (λ m. inr (omega arith)) (eq-or-lt-of-le m))) (eq-or-lt-of-le l)
@@ -243,3 +244,37 @@ module _ {t v q nodes : List ℕ} {e : ℕ} {f : Entry} (fe : f ≡ entry q e) (
   pub did-is : (o : List ℕ) → o ≡ tab 256 (only (assigned nodes (f .left))) → assigned nodes (f .left) < sizeOf t → f .kind ≡ 12 → o ≡ passed t q nodes e
   unfolding holdsOver
   did-is o p l h = p ∙ only-upto (sizeOf t) (small ok) (assigned nodes (f .left)) l ∙ rw fe (as-expr t q nodes e (is (left q e)) (at-is q e (rw fe at h)))
+
+-- stars, and the node expression on two paths
+
+module _ {t v q nodes : List ℕ} {e : ℕ} {f : Entry} (fe : f ≡ entry q e) (ok : Ready t v q nodes) (em : e < entriesOf q) where
+  pub is-closure : f .kind ≡ 13 → pathAt q e ≡ closure (pathAt q (f .left))
+  unfolding leftPath
+  is-closure h = rw fe (at-closure q e (rw fe at h) (path-left fe ok em (rw h)))
+
+  star-related : (b : Bool) (x y : ℕ) → f .kind ≡ 13 → closed (sizeOf t) (related t q nodes (f .left) b) x y ≡ related t q nodes e b x y
+  unfolding related pairsOver
+  star-related true x y h = closed-turn (rel t q nodes (f .left)) (sizeOf t) x y ∙ ap (λ (p : Path). pairs (treeOf t) (assigned nodes) p y x) (sym (is-closure h))
+  star-related false x y h = ap (λ (p : Path). pairs (treeOf t) (assigned nodes) p x y) (sym (is-closure h))
+
+  pub did-star : (b : Bool) (s a z all : List ℕ) → a ≡ tab 256 (image (sizeOf t) (closed (sizeOf t) (related t q nodes (f .left) b)) (memb z)) → z ≡ tab 256 (combination 1 all s) → all ≡ tab 256 (upto (sizeOf t) (always true)) → f .kind ≡ 13 → a ≡ reached t q nodes e b s
+  unfolding reached
+  did-star b s a z all p c d h =
+      p ∙ image-from (sizeOf t) (small ok) (closed (sizeOf t) (related t q nodes (f .left) b)) (memb z) (memb s) (λ x l. ap (λ (u : List ℕ). memb u x) (c ∙ ap (λ (u : List ℕ). tab 256 (combination 1 u s)) d ∙ trim-upto (sizeOf t) (small ok) (always true) s) ∙ memb-upto (sizeOf t) (small ok) (λ k. true && memb s k) x l)
+      ∙ image-cong (sizeOf t) (small ok) (closed (sizeOf t) (related t q nodes (f .left) b)) (related t q nodes e b) (memb s) (λ x y lx ly. star-related b x y h)
+
+  pub is-same : f .kind ≡ 14 → exprAt q e ≡ same (pathAt q (f .left)) (pathAt q (f .right))
+  unfolding leftPath rightPath
+  is-same h = rw fe (at-same q e (rw fe at h) (path-left fe ok em (rw h)) (path-right fe ok em (rw h)))
+
+  pub same-hit : (x : ℕ) (hit : Bool) (s a b c : List ℕ) → hit ≡ any (sizeOf t) (memb c) → c ≡ tab 256 (combination 1 a b) → a ≡ reached t q nodes (f .left) false s → b ≡ reached t q nodes (f .right) false s → s ≡ tab 256 (only x) → x < sizeOf t → f .kind ≡ 14 → hit ≡ passing t q nodes e x
+  unfolding reached passing holdsOver related combine
+  same-hit x hit s a b c p d u w z l h =
+      p ∙ rw (d, u, w, z, image-one (sizeOf t) (small ok) (rel t q nodes (f .left)) x l, image-one (sizeOf t) (small ok) (rel t q nodes (f .right)) x l, combine-upto (sizeOf t) (small ok) 1 (rel t q nodes (f .left) x) (rel t q nodes (f .right) x))
+      (any-cong (sizeOf t) _ _ (λ y k. memb-upto (sizeOf t) (small ok) (λ y. rel t q nodes (f .left) x y && rel t q nodes (f .right) x y) y k))
+      ∙ ap (λ (g : NodeExpr). holds (treeOf t) (assigned nodes) g x) (sym (is-same h))
+
+-- a set that no node has been put into yet
+pub no-nodes : (S : ℕ → Bool) (a : List ℕ) → a ≡ tab 256 (upto 0 (always true)) → a ≡ tab 256 (upto 0 S)
+unfolding upto
+no-nodes S a p = p ∙ tab-cong 256 _ _ (λ k l. rw (le-ltb k 0 (omega arith)))

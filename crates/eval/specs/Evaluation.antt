@@ -1,11 +1,13 @@
 -- What the evaluator asks for, and what it gives: node sets as 256 bytes.
 use Prim.Native.Nat.{ℕ, _-_, _≤_, _<_}
+use mathlib.Core.Path.{_≡_}
 use mathlib.Core.Bool.{Bool}
 use mathlib.Core.List.{List}
 use Rattle.model.specs.Sets.{tab, memb, upto, image}
 use Rattle.model.specs.Tree.{treeOf, sizeOf}
 use Rattle.model.specs.Meaning.{holds}
 use Rattle.model.specs.QueryTable.{entriesOf, kind, left, right, exprAt}
+use Rattle.model.specs.Kinds.{isPath}
 use Rattle.model.specs.Results.{assigned, related}
 use Rattle.model.specs.Accepted.{Evaluable}
 use Rattle.sets.specs.NodeSets.{combination}
@@ -21,6 +23,11 @@ pub record OfKind (q : List ℕ) (e low high : ℕ) : Type 0 where
   pub within : e < entriesOf q
   pub least : low ≤ kind q e
   pub most : kind q e ≤ high
+
+-- entry e is one of q: a path where the flag is set, else a node expression
+pub record Sorted (q : List ℕ) (e : ℕ) (path : Bool) : Type 0 where
+  pub within : e < entriesOf q
+  pub sort : isPath (kind q e) ≡ path
 
 -- the node expression at entry e of q holds at x
 unfoldable pub passing : List ℕ → List ℕ → List ℕ → ℕ → ℕ → Bool

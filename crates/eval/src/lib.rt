@@ -1,21 +1,21 @@
 // Evaluation of a query over node sets: a path forwards or backwards from a set, a node expression at all nodes at once.
 // Path and node evaluation call each other, the entry number falling.
 //
-// A path without intersect and except costs O(entries × n), whatever its nesting: every entry is evaluated once, and
-// `some` is one backward image of all nodes. Intersect and except go over the start nodes one at a time, O(n) times the
-// cost of their operands, which multiplies where they are nested. Sets travel by value, so that a level of calls takes a
+// A path without intersect, except, star and `same` costs O(entries × n), whatever its nesting: every entry is evaluated once, and
+// `some` is one backward image of all nodes. Intersect, except and `same` go over the start nodes one at a time, and a star over
+// at most n images, O(n) times the cost of their operands, which multiplies where they are nested. Sets travel by value, so that a level of calls takes a
 // few KiB of stack, and a query has at most 64 levels.
 //
 // Each evaluation tells how many nodes its result has, in a number that it is lent: a set is counted where it is made, and one that
 // is handed on keeps its count. What an operand tells is overwritten.
 ghost use mathlib.Core.Path.{_≡_};
-ghost use mathlib.Core.Bool.{false, cond};
+ghost use mathlib.Core.Bool.{true, false, cond};
 ghost use Prim.Native.Nat.{_≤_, _<_};
 ghost use lib.ListN.{length};
 ghost use Rattle.model.specs.Sets.{tab, ones, memb, upto, turn, image};
 ghost use Rattle.model.specs.Results.{assigned};
 ghost use Rattle.sets.specs.NodeSets.{only};
-ghost use Rattle.eval.specs.Evaluation.{Ready, OfKind, passed, reached, row, joined, ending};
+ghost use Rattle.eval.specs.Evaluation.{Ready, OfKind, Sorted, passed, reached, row, joined, ending};
 
 // The node of variable k, as a set.
 fn variable(nodes: &[u16], k: usize) -> [u8; 256]
@@ -78,7 +78,7 @@ pub fn path(
     from: [u8; 256],
     count: &mut usize,
 ) -> [u8; 256]
-    requires { ⌜ Ready (now tree) (now prev) (now query) (now nodes) × OfKind (now query) e 0 7 ⌝ }
+    requires { ⌜ Ready (now tree) (now prev) (now query) (now nodes) × Sorted (now query) e true ⌝ }
     ensures { λ r.
         ⌜
         (r ≡ reached (now (tree .entry)) (now (query .entry)) (now (nodes .entry)) e back from)
@@ -113,6 +113,9 @@ pub fn path(
         let m = path(tree, prev, query, nodes, l, back, from, count);
         return sets::combined_counted(sets::INTERSECTION, m, s, count);
     }
+    if k == 13 {
+        return star(tree, prev, query, nodes, e, back, from, count);
+    }
     let to = ends(tree, prev, query, nodes, e, count);
     ending_image(tree.len() / 2, to, back, from, count)
 }
@@ -126,7 +129,7 @@ pub fn node(
     e: usize,
     count: &mut usize,
 ) -> [u8; 256]
-    requires { ⌜ Ready (now tree) (now prev) (now query) (now nodes) × OfKind (now query) e 8 12 ⌝ }
+    requires { ⌜ Ready (now tree) (now prev) (now query) (now nodes) × Sorted (now query) e false ⌝ }
     ensures { λ r.
         ⌜
         (r ≡ passed (now (tree .entry)) (now (query .entry)) (now (nodes .entry)) e)
@@ -150,6 +153,9 @@ pub fn node(
     if k == 12 {
         *count = 1;
         return variable(nodes, l);
+    }
+    if k == 14 {
+        return same(tree, prev, query, nodes, e, count);
     }
     let a = node(tree, prev, query, nodes, l, count);
     let b = node(tree, prev, query, nodes, r, count);
@@ -247,4 +253,79 @@ fn ends(
     }
     let root = sets::single(0);
     path(tree, prev, query, nodes, l, false, root, count)
+}
+
+// A star: from the nodes found last the operand is followed on, until it finds none that is new. At most n rounds, since each but the last
+// finds a node more, and each node is followed from once.
+fn star(
+    tree: &[u16],
+    prev: &[u16],
+    query: &[u16],
+    nodes: &[u16],
+    e: usize,
+    back: bool,
+    from: [u8; 256],
+    count: &mut usize,
+) -> [u8; 256]
+    requires { ⌜ Ready (now tree) (now prev) (now query) (now nodes) × OfKind (now query) e 13 13 ⌝ }
+    ensures { λ r.
+        ⌜
+        (r ≡ reached (now (tree .entry)) (now (query .entry)) (now (nodes .entry)) e back from)
+        × (now (count .exit) ≡ ones r)
+        ⌝ }
+{
+    let n = tree.len() / 2;
+    let f = query::entry_at(query, e);
+    let l = f.left;
+    let all = sets::full(n);
+    let mut known = sets::combined(sets::INTERSECTION, all, from);
+    let mut last = known;
+    loop {
+        let next = path(tree, prev, query, nodes, l, back, last, count);
+        let fresh = sets::combined(sets::DIFFERENCE, next, known);
+        let more = sets::occupied(n, fresh);
+        if !more {
+            *count = sets::count_of(known);
+            return known;
+        }
+        let grown = sets::combined(sets::UNION, known, fresh);
+        known = grown;
+        last = fresh;
+    }
+}
+
+// The nodes from which both operands of a `same` reach some one node: one start node after the other, since from more than one
+// they might reach it from different ones.
+fn same(
+    tree: &[u16],
+    prev: &[u16],
+    query: &[u16],
+    nodes: &[u16],
+    e: usize,
+    count: &mut usize,
+) -> [u8; 256]
+    requires { ⌜ Ready (now tree) (now prev) (now query) (now nodes) × OfKind (now query) e 14 14 ⌝ }
+    ensures { λ r.
+        ⌜
+        (r ≡ passed (now (tree .entry)) (now (query .entry)) (now (nodes .entry)) e)
+        × (now (count .exit) ≡ ones r)
+        ⌝ }
+{
+    let n = tree.len() / 2;
+    let f = query::entry_at(query, e);
+    let l = f.left;
+    let r = f.right;
+    let mut starts = sets::full(0);
+    let mut x = 0;
+    while x < n {
+        let start = sets::single(x);
+        let a = path(tree, prev, query, nodes, l, false, start, count);
+        let b = path(tree, prev, query, nodes, r, false, start, count);
+        let met = sets::combined(sets::INTERSECTION, a, b);
+        let some = sets::occupied(n, met);
+        starts[x] = sets::byte(some);
+        x += 1;
+    }
+    *count = sets::count_of(starts);
+    starts
 }

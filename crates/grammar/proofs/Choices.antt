@@ -1,4 +1,4 @@
--- The choices of a state by their numbers: 0 to 19 where an expression is wanted, 20 to 33 behind one, 34 for a byte of a name and 35
+-- The choices of a state by their numbers: 0 to 19 where an expression is wanted, 20 to 35 behind one, 36 for a byte of a name and 37
 -- for the star behind an axis. What holds of every choice holds of the one that is taken.
 use Prim.Native.Nat.{ℕ, suc, _+_}
 use native.Mathlib.Omega.{arith}
@@ -50,17 +50,17 @@ each-indexed P f (j ∷ js) l k h r =
 abbrev pub Taken : State → ℕ → State → Type 0
 Taken (state fs want) k x = Nth (next (state fs want)) k x
 Taken (state fs (axis a)) k x =
-    ((k ≡ 34) × (b : ℕ) × (elem b nameBytes ≡ true) × (x ≡ state fs (have (named a (b ∷ []))))) ⊎ ((k ≡ 35) × (x ≡ state fs (have (wildcard a star))))
+    ((k ≡ 36) × (b : ℕ) × (elem b nameBytes ≡ true) × (x ≡ state fs (have (named a (b ∷ []))))) ⊎ ((k ≡ 37) × (x ≡ state fs (have (wildcard a star))))
 Taken (state fs (have e)) k x =
-    ((k ≡ 34) × (isNamed e ≡ true) × (b : ℕ) × (elem b nameBytes ≡ true) × (x ≡ state fs (have (longer e b)))) ⊎ ((i : ℕ) × (k ≡ 20 + i) × Nth (behind fs e) i x)
+    ((k ≡ 36) × (isNamed e ≡ true) × (b : ℕ) × (elem b nameBytes ≡ true) × (x ≡ state fs (have (longer e b)))) ⊎ ((i : ℕ) × (k ≡ 20 + i) × Nth (behind fs e) i x)
 
 -- P holds of every word of the state
 abbrev pub Every : (State → ℕ → State → Type 0) → State → Type 0
 Every P (state fs want) = Indexed (P (state fs want)) 0 (next (state fs want))
 Every P (state fs (axis a)) =
-    ((b : ℕ) → elem b nameBytes ≡ true → P (state fs (axis a)) 34 (state fs (have (named a (b ∷ []))))) × P (state fs (axis a)) 35 (state fs (have (wildcard a star)))
+    ((b : ℕ) → elem b nameBytes ≡ true → P (state fs (axis a)) 36 (state fs (have (named a (b ∷ []))))) × P (state fs (axis a)) 37 (state fs (have (wildcard a star)))
 Every P (state fs (have e)) =
-    (isNamed e ≡ true → (b : ℕ) → elem b nameBytes ≡ true → P (state fs (have e)) 34 (state fs (have (longer e b))))
+    (isNamed e ≡ true → (b : ℕ) → elem b nameBytes ≡ true → P (state fs (have e)) 36 (state fs (have (longer e b))))
     × Indexed (P (state fs (have e))) 20 (behind fs e)
 
 pub every-taken : (P : State → ℕ → State → Type 0) (s : State) (k : ℕ) (x : State) → Taken s k x → Every P s → P s k x

@@ -11,8 +11,8 @@ use Rattle.model.specs.Lists.{equal}
 use Rattle.grammar.specs.Grammar.{Expr, ascii, elem, axes, axisWord, variables, nameBytes, allName, isName, print, fits}
 use Rattle.grammar.specs.Grammar.Slash.{one, two}
 use Rattle.grammar.specs.Grammar.Wildcard.{star, node}
-use Rattle.grammar.specs.Grammar.Op.{or, and, union, intersect, except, slash}
-use Rattle.grammar.specs.Grammar.Expr.{wildcard, named, dot, dots, variable, bracket, negate, is, filter, rooted, join}
+use Rattle.grammar.specs.Grammar.Op.{or, and, same, union, intersect, except, slash}
+use Rattle.grammar.specs.Grammar.Expr.{wildcard, named, dot, dots, variable, bracket, closure, negate, is, filter, rooted, join}
 use Rattle.grammar.specs.Online.{reach, feed, taken, settle, advance}
 use Rattle.grammar.specs.Automaton.{next, each, mayJoin, joined, opened, closed, isPath, stopsAt}
 use Rattle.grammar.specs.Typed.{belowBy, exprBy, pathBy, pathOf}
@@ -23,7 +23,7 @@ pub record Example : Type 0 where
   pub reading : Expr
   pub path : Path
 
--- grouping, precedence, brackets, what '//' stands for, and 'node()' beside the name 'node'
+-- grouping, precedence, brackets, what '//' stands for, 'node()' beside the name 'node', stars behind brackets, and 'same'
 pub examples : List Example
 examples =
     -- a leading slash takes the whole run, and '//' has a step between its slashes
@@ -58,6 +58,24 @@ examples =
       reading = join (slash one) (wildcard 1 node) (named 1 (ascii "nodes"));
       path = compose (step 1 65534) (step 1 5);
     }
+    -- a star behind a bracket, also within one, before a filter and behind '//'
+    ∷ record { text = ascii "(child::a)*"; reading = closure (named 1 (ascii "a")); path = Path.closure (step 1 1) }
+    ∷ record {
+      text = ascii "//((child::a)*/..)*[.]";
+      reading = rooted two (filter (closure (join (slash one) (closure (named 1 (ascii "a"))) dots)) dot);
+      path = fromRoot (compose (step 11 65534) (Path.filter (Path.closure (compose (Path.closure (step 1 1)) (step 2 65534))) (exists (step 0 65534))));
+    }
+    -- 'same' binds looser than 'union' and tighter than 'and'
+    ∷ record {
+      text = ascii ".[child::a same child::bc]";
+      reading = filter dot (join same (named 1 (ascii "a")) (named 1 (ascii "bc")));
+      path = Path.filter (step 0 65534) (NodeExpr.same (step 1 1) (step 1 2));
+    }
+    ∷ record {
+      text = ascii ".[. and $0 union .. same . union $1]";
+      reading = filter dot (join and dot (join same (join union (variable 0) dots) (join union dot (variable 1))));
+      path = Path.filter (step 0 65534) (both (exists (step 0 65534)) (NodeExpr.same (Path.union (Path.variable 0) (step 2 65534)) (Path.union (step 0 65534) (Path.variable 1))));
+    }
     ∷ []
 
 -- each reading is the grammar's, looks as the text does, and stands for the path
@@ -72,7 +90,7 @@ pub record Refusal : Type 0 where
   pub text : List ℕ
   pub place : ℕ
 
--- within a word, behind a test, behind two slashes, at the end, and beside 'node()'
+-- within a word, behind a test, behind two slashes, at the end, beside 'node()', and at stars and 'same'
 pub refusals : List Refusal
 refusals =
     -- of the words, only 'descendant-or-self' goes on from 'descendant-'
@@ -87,6 +105,12 @@ refusals =
     ∷ record { text = ascii "child::nodes()"; place = 12 }
     ∷ record { text = ascii "child::node("; place = 12 }
     ∷ record { text = ascii "child::node(x"; place = 12 }
+    -- no star behind a bracket that holds a test, nor behind a star
+    ∷ record { text = ascii ".[(child::a or .)*]"; place = 17 }
+    ∷ record { text = ascii "(.)**"; place = 4 }
+    -- no chain of 'same', and none where no test may stand
+    ∷ record { text = ascii ".[. same .. same .]"; place = 12 }
+    ∷ record { text = ascii "(. same .)"; place = 3 }
     ∷ []
 
 -- each place is where the reading stops

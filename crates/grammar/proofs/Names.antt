@@ -8,17 +8,17 @@ use lib.Dec.{leb, ltb}
 use lib.ListN.{length, drop, length-append}
 use lib.Seq.{drop-at}
 use Rattle.model.proofs.Booleans.{no-yes, yes-left}
-use Rattle.grammar.specs.Grammar.{Expr, Op, ascii, axes, axisWord, variables, level, slashWord, word, print}
+use Rattle.grammar.specs.Grammar.{Expr, Op, ascii, axes, axisWord, variables, level, leftLevel, slashWord, word, print}
 use Rattle.grammar.specs.Grammar.Slash.{one}
-use Rattle.grammar.specs.Grammar.Op.{or, and, union, intersect, except, slash}
-use Rattle.grammar.specs.Grammar.Expr.{wildcard, named, dot, dots, variable, bracket, negate, is, filter, rooted, join}
-use Rattle.grammar.specs.Automaton.{Frame, State, takesTest, opened, closed, slashed, mayFilter, filtered, mayParen, parenthesised, isDot, joined, isNamed, longer, axisChoice, variableChoice, isChoice, next, start, whole, outcomeAt}
+use Rattle.grammar.specs.Grammar.Op.{or, and, same, union, intersect, except, slash}
+use Rattle.grammar.specs.Grammar.Expr.{wildcard, named, dot, dots, variable, bracket, closure, negate, is, filter, rooted, join}
+use Rattle.grammar.specs.Automaton.{Frame, State, takesTest, opened, closed, isPath, slashed, mayFilter, filtered, mayParen, parenthesised, isDot, joined, isNamed, longer, asClosure, axisChoice, variableChoice, isChoice, next, start, whole, outcomeAt}
 use Rattle.grammar.specs.Automaton.Frame.{left, lead, paren, negation, test}
 use Rattle.grammar.specs.Automaton.Focus.{want, axis, have}
 use Rattle.grammar.specs.Automaton.State.{state}
 use Rattle.grammar.specs.Automaton.Outcome.{accepted}
 use Rattle.grammar.specs.Typed.{TypedName, namesIn}
-use Rattle.grammar.proofs.Soundness.{shown, inFocus, After, dot-is, by-name, node-named}
+use Rattle.grammar.proofs.Soundness.{shown, inFocus, After, dot-is, by-name, node-named, by-group}
 use Rattle.grammar.proofs.Choices.{Every, each-indexed}
 
 -- the names in what stands before the gaps
@@ -65,6 +65,7 @@ BegunIn q dot p = Unit {0}
 BegunIn q dots p = Unit {0}
 BegunIn q (variable k) p = Unit {0}
 BegunIn q (bracket e) p = Unit {0}
+BegunIn q (closure e) p = Unit {0}
 BegunIn q (negate e) p = Unit {0}
 BegunIn q (is k) p = Unit {0}
 BegunIn q (filter e t) p = Unit {0}
@@ -99,7 +100,7 @@ names-closed (left l o ∷ fs) n e = go (leb n (level o)) (names-closed fs n (jo
         → namesWith (cond t (opened n fs) (left l o ∷ fs)) (cond t (closed n fs (join o l e)) e) ≡ namesWith (left l o ∷ fs) e
     go true ih = ih ∙ rw (sym place) (sym (append-assoc (gapNames fs) (namesIn (length (shown fs)) l) (namesIn (length (shown fs) + length (print l) + length (word o)) e)))
     go false ih = refl
-names-closed (lead s ∷ fs) n e = go (leb n 4) (names-closed fs n (rooted s e))
+names-closed (lead s ∷ fs) n e = go (leb n 5) (names-closed fs n (rooted s e))
   where
     go :
         (t : Bool) → namesWith (opened n fs) (closed n fs (rooted s e)) ≡ namesWith fs (rooted s e)
@@ -138,6 +139,7 @@ unfolding gapNames
 names-slashed [] = refl
 names-slashed (left l or ∷ fs) = refl
 names-slashed (left l and ∷ fs) = refl
+names-slashed (left l same ∷ fs) = refl
 names-slashed (left l union ∷ fs) = refl
 names-slashed (left l intersect ∷ fs) = refl
 names-slashed (left l except ∷ fs) = refl
@@ -147,14 +149,14 @@ names-slashed (paren ∷ fs) = refl
 names-slashed (negation ∷ fs) = refl
 names-slashed (test e ∷ fs) = refl
 
--- the word number k leads from s to x: the name that was being read is read to its end by the words below 33; '()' makes it a name no
--- longer, and with a byte more it goes on
+-- the word number k leads from s to x: the name that was being read is read to its end by the words below 34; '()' makes it a name no
+-- longer, with a byte more it goes on, and before the star behind a bracket none was being read
 abbrev pub NamesOn : State → ℕ → State → Type 0
-NamesOn s k x = finished x ≡ finished s ++ cond (ltb k 33) (pendingName s) []
+NamesOn s k x = finished x ≡ finished s ++ cond (ltb k 34) (pendingName s) []
 
 -- no name was being read
 none-pending : (s x : State) (k : ℕ) → pendingName s ≡ [] → finished x ≡ finished s → NamesOn s k x
-none-pending s x k p q = q ∙ go (ltb k 33)
+none-pending s x k p q = q ∙ go (ltb k 34)
   where
     go : (b : Bool) → finished s ≡ finished s ++ cond b (pendingName s) []
     go true = rw p (sym (append-nil (finished s)))
@@ -165,7 +167,7 @@ name-last : (fs : List Frame) (e : Expr) → isNamed e ≡ true → gapNames fs 
 unfolding finished
 name-last fs e h = rw h (sym (append-nil (gapNames fs ++ [])))
 
--- every word below 33 ends the name that is being read
+-- every word below 34 ends the name that is being read
 pub names-on : (s : State) → Every NamesOn s
 unfolding finished pendingName namesIn gapNames next joined axes variables
 names-on (state fs want) =
@@ -202,16 +204,22 @@ names-on (state fs (have e)) = (
             (
               λ _. joins and,
               (
-                λ _. joins union,
+                λ _. joins same,
                 (
-                  λ _. joins intersect,
+                  λ _. joins union,
                   (
-                    λ _. joins except,
+                    λ _. joins intersect,
                     (
-                      λ _. joins (slash one),
+                      λ _. joins except,
                       (
-                        λ h. name-last fs e (node-named e h),
-                        tt,
+                        λ _. joins (slash one),
+                        (
+                          λ h. name-last fs e (node-named e h),
+                          (
+                            λ h. by-group (λ (x : Expr). NamesOn (state fs (have x)) 35 (state fs (have (asClosure x)))) behind-bracket e h,
+                            tt,
+                          ),
+                        ),
                       ),
                     ),
                   ),
@@ -233,8 +241,11 @@ names-on (state fs (have e)) = (
         none-pending s (state fs (have d)) k (ap (λ (x : Expr). pendingName (state fs (have x))) (dot-is e i))
         (rw (h, n) refl ∙ ap (λ (x : Expr). finished (state fs (have x))) (sym (dot-is e i)))
 
-    joins : (o : Op) → gapNames (opened (level o) fs) ++ namesIn (length (shown (opened (level o) fs))) (closed (level o) fs e) ≡ finished s ++ pendingName s
-    joins o = names-closed fs (level o) e ∙ sym (all-names fs e)
+    behind-bracket : (d : Expr) → isPath d ≡ true → NamesOn (state fs (have (bracket d))) 35 (state fs (have (closure d)))
+    behind-bracket d _ = none-pending (state fs (have (bracket d))) (state fs (have (closure d))) 35 refl refl
+
+    joins : (o : Op) → gapNames (opened (leftLevel o) fs) ++ namesIn (length (shown (opened (leftLevel o) fs))) (closed (leftLevel o) fs e) ≡ finished s ++ pendingName s
+    joins o = names-closed fs (leftLevel o) e ∙ sym (all-names fs e)
 
 -- no name has been read at the beginning
 pub names-start : finished start ≡ []
@@ -316,7 +327,13 @@ begun-on (state fs (have e)) c w = (
                       λ _ p g. tt,
                       (
                         λ _ p g. tt,
-                        tt,
+                        (
+                          λ _ p g. tt,
+                          (
+                            λ _ p g. tt,
+                            tt,
+                          ),
+                        ),
                       ),
                     ),
                   ),
@@ -352,6 +369,7 @@ ending-in fs dot c p w g h = no-yes refl h
 ending-in fs dots c p w g h = no-yes refl h
 ending-in fs (variable k) c p w g h = no-yes refl h
 ending-in fs (bracket e) c p w g h = no-yes refl h
+ending-in fs (closure e) c p w g h = no-yes refl h
 ending-in fs (negate e) c p w g h = no-yes refl h
 ending-in fs (is k) c p w g h = no-yes refl h
 ending-in fs (filter e t) c p w g h = no-yes refl h

@@ -8,14 +8,15 @@ use lib.Dec.{leb, ltb}
 use borrow.Author.Tests.{ltb-true}
 use Rattle.model.specs.Syntax.{Path, NodeExpr}
 use Rattle.model.specs.Refusals.{reply, verdict}
-use Rattle.model.specs.Checks.{namesVariable, queryChecks}
+use Rattle.model.specs.Kinds.{namesVariable}
+use Rattle.model.specs.Checks.{queryChecks}
 use Rattle.model.specs.Encoding.{pathTerm, exprTerm, size, tableOf, columns, columnsOf}
 use Rattle.model.proofs.Booleans.{yes-left, yes-right}
 use Rattle.model.proofs.Made.{ProperSteps, ProperStepsIn, made-passes}
-use Rattle.grammar.specs.Grammar.{Expr, Op, Slash, elem, from, axes, variables, level, logical, isName, fits}
+use Rattle.grammar.specs.Grammar.{Expr, Op, Slash, elem, from, axes, variables, level, leftLevel, logical, makesTest, isName, fits}
 use Rattle.grammar.specs.Grammar.Slash.{one, two}
-use Rattle.grammar.specs.Grammar.Op.{or, and, union, intersect, except, slash}
-use Rattle.grammar.specs.Grammar.Expr.{wildcard, named, dot, dots, variable, bracket, negate, is, filter, rooted, join}
+use Rattle.grammar.specs.Grammar.Op.{or, and, same, union, intersect, except, slash}
+use Rattle.grammar.specs.Grammar.Expr.{wildcard, named, dot, dots, variable, bracket, closure, negate, is, filter, rooted, join}
 use Rattle.grammar.specs.Typed.{belowBy, exprBy, pathBy, wildcardTag, anywhere, pathOf, below, exprOf}
 use Rattle.grammar.proofs.NameBytes.{elem-from}
 
@@ -75,6 +76,7 @@ module _ (tag : List ℕ → ℕ) where
   unfolding pathBy belowBy exprBy ProperSteps ProperStepsIn pathTerm exprTerm columns
   operator-fine or l r u v = (none-fine, none-fine, pair (columns (exprTerm (exprOf l tag))) (columns (exprTerm (exprOf r tag))) (u .2) (v .2))
   operator-fine and l r u v = (none-fine, none-fine, pair (columns (exprTerm (exprOf l tag))) (columns (exprTerm (exprOf r tag))) (u .2) (v .2))
+  operator-fine same l r u v = (none-fine, none-fine, pair (columns (pathTerm (pathOf l tag))) (columns (pathTerm (pathOf r tag))) (u .0) (v .0))
   operator-fine union l r u v = let w = compose-fine (pathOf l tag) (pathOf r tag) (u .0) (v .0) in (w, none-fine, w)
   operator-fine intersect l r u v = let w = compose-fine (pathOf l tag) (pathOf r tag) (u .0) (v .0) in (w, none-fine, w)
   operator-fine except l r u v = let w = compose-fine (pathOf l tag) (pathOf r tag) (u .0) (v .0) in (w, none-fine, w)
@@ -96,18 +98,19 @@ module _ (tag : List ℕ → ℕ) where
   all-fine n b dots h = alone (Path.step 2 65534) (step-fine 2 65534 (omega arith))
   all-fine n b (variable k) h = alone (Path.variable k) (variable-fine k (variable-below k h))
   all-fine n b (bracket e) h = let u = all-fine 0 b e h in (u .0, compose-fine anywhere (pathOf e tag) anywhere-fine (u .0), u .2)
+  all-fine n b (closure e) h = alone (Path.closure (pathOf e tag)) (all-fine 0 false e h .0)
   all-fine n b (negate e) h = (none-fine, none-fine, all-fine 0 true e (yes-right b (fits 0 true e) h) .2)
   all-fine n b (is k) h = (none-fine, none-fine, (tt, variable-below k (yes-right b (elem k variables) h)))
   all-fine n b (filter e t) h =
-      let u = all-fine 6 false e (yes-left (fits 6 false e) (fits 0 true t) h) in
-      let v = all-fine 0 true t (yes-right (fits 6 false e) (fits 0 true t) h) in
+      let u = all-fine 7 false e (yes-left (fits 7 false e) (fits 0 true t) h) in
+      let v = all-fine 0 true t (yes-right (fits 7 false e) (fits 0 true t) h) in
       alone (Path.filter (pathOf e tag) (exprOf t tag)) (pair (columns (pathTerm (pathOf e tag))) (columns (exprTerm (exprOf t tag))) (u .0) (v .2))
-  all-fine n b (rooted s e) h = root-fine s e (all-fine 5 false e (yes-right (leb n 4) (fits 5 false e) h))
+  all-fine n b (rooted s e) h = root-fine s e (all-fine 6 false e (yes-right (leb n 5) (fits 6 false e) h))
   all-fine n b (join o l r) h =
-      let L = fits (level o) (logical o) l in
+      let L = fits (leftLevel o) (logical o) l in
       let R = fits (suc (level o)) (logical o) r in
-      let f : (L && R) ≡ true = yes-right (not (logical o) || b) (L && R) (yes-right (leb n (level o)) ((not (logical o) || b) && (L && R)) h) in
-      operator-fine o l r (all-fine (level o) (logical o) l (yes-left L R f)) (all-fine (suc (level o)) (logical o) r (yes-right L R f))
+      let f : (L && R) ≡ true = yes-right (not (makesTest o) || b) (L && R) (yes-right (leb n (level o)) ((not (makesTest o) || b) && (L && R)) h) in
+      operator-fine o l r (all-fine (leftLevel o) (logical o) l (yes-left L R f)) (all-fine (suc (level o)) (logical o) r (yes-right L R f))
 
 -- for the reader: the path of a grammatical expression, whatever the tags of its names
 module _ (e : Expr) (h : fits 0 false e ≡ true) (tag : List ℕ → ℕ) where

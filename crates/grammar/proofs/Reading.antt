@@ -4,17 +4,17 @@ use native.Mathlib.Omega.{arith}
 use mathlib.Core.Path.{_≡_, refl, sym, ap, _∙_, subst}
 use mathlib.Core.Logic.{_⊎_, ⊎-elim}
 use mathlib.Core.Logic._⊎_.{inl, inr}
-use mathlib.Core.Bool.{Bool, true, false, not, _&&_, _||_, cond}
+use mathlib.Core.Bool.{Bool, true, false, not, _&&_, _||_}
 use mathlib.Core.List.{List, [], _∷_, _++_, append-assoc, append-nil}
 use lib.Dec.{leb, eqb}
 use borrow.Author.Tests.{eqb-true, leb-true, le-leb, lt-leb}
 use Rattle.model.proofs.Booleans.{no-yes, yes-left, yes-right, both-yes, or-cases}
 use Rattle.model.specs.Lists.{equal}
-use Rattle.grammar.specs.Grammar.{Expr, Op, Slash, ascii, elem, axes, axisWord, variables, nameBytes, allName, isName, level, logical, word, print, fits}
+use Rattle.grammar.specs.Grammar.{Expr, Op, Slash, ascii, elem, axes, axisWord, variables, nameBytes, allName, isName, level, leftLevel, logical, makesTest, word, print, fits}
 use Rattle.grammar.specs.Grammar.Slash.{one, two}
 use Rattle.grammar.specs.Grammar.Wildcard.{star, node}
-use Rattle.grammar.specs.Grammar.Op.{or, and, union, intersect, except, slash}
-use Rattle.grammar.specs.Grammar.Expr.{wildcard, named, dot, dots, variable, bracket, negate, is, filter, rooted, join}
+use Rattle.grammar.specs.Grammar.Op.{or, and, same, union, intersect, except, slash}
+use Rattle.grammar.specs.Grammar.Expr.{wildcard, named, dot, dots, variable, bracket, closure, negate, is, filter, rooted, join}
 use Rattle.grammar.specs.Online.{Choice, Place, run}
 use Rattle.grammar.specs.Online.Choice.{choice}
 use Rattle.grammar.specs.Online.Place.{between}
@@ -145,7 +145,10 @@ module _ (fs : List Frame) where
 
   read-node : (a : ℕ) → Reads (state fs (have (named a (ascii "node")))) (ascii "()") (state fs (have (wildcard a node)))
   unfolding equal
-  read-node a = has (named a (ascii "node")) _ _ (inr (inr (inr (inr (inr (inr (inr (inr (inr (inr (inl (refl, refl, refl))))))))))))
+  read-node a = has (named a (ascii "node")) _ _ (inr (inr (inr (inr (inr (inr (inr (inr (inr (inr (inr (inl (refl, refl, refl)))))))))))))
+
+  read-closure : (e : Expr) → isPath e ≡ true → Reads (state fs (have (bracket e))) (ascii "*") (state fs (have (closure e)))
+  read-closure e h = has (bracket e) _ _ (inr (inr (inr (inr (inr (inr (inr (inr (inr (inr (inr (inr (inl (h, refl, refl))))))))))))))
 
   -- where the inner gaps close to e, and leave a bracket
   module _ (e′ e : Expr) (gs : List Frame) (q : closed 0 fs e′ ≡ e) where
@@ -164,26 +167,27 @@ module _ (fs : List Frame) where
 -- an operator, where the inner gaps close to e and leave gs
 
 module _ (fs : List Frame) (e′ e : Expr) (gs : List Frame) where
-  may-join : (o : Op) → opened (level o) fs ≡ gs → cond (logical o) (takesTest gs) (isPath e′) ≡ true → mayJoin o fs e′ ≡ true
+  may-join : (o : Op) → opened (leftLevel o) fs ≡ gs → ((logical o || isPath e′) && (not (makesTest o) || takesTest gs)) ≡ true → mayJoin o fs e′ ≡ true
   unfolding mayJoin
   may-join o p h = rw p h
 
-  joined-to : (o : Op) → closed (level o) fs e′ ≡ e → opened (level o) fs ≡ gs → joined o fs e′ ≡ state (left e o ∷ gs) want
+  joined-to : (o : Op) → closed (leftLevel o) fs e′ ≡ e → opened (leftLevel o) fs ≡ gs → joined o fs e′ ≡ state (left e o ∷ gs) want
   unfolding joined
   joined-to o q p = rw (q, p)
 
-  read-join : (o : Op) → closed (level o) fs e′ ≡ e → opened (level o) fs ≡ gs → cond (logical o) (takesTest gs) (isPath e′) ≡ true
+  read-join : (o : Op) → closed (leftLevel o) fs e′ ≡ e → opened (leftLevel o) fs ≡ gs → ((logical o || isPath e′) && (not (makesTest o) || takesTest gs)) ≡ true
       → Reads (state fs (have e′)) (word o) (state (left e o ∷ gs) want)
   read-join or q p h = has fs e′ _ _ (inr (inr (inr (inr (inl (may-join or p h, refl, joined-to or q p))))))
   read-join and q p h = has fs e′ _ _ (inr (inr (inr (inr (inr (inl (may-join and p h, refl, joined-to and q p)))))))
-  read-join union q p h = has fs e′ _ _ (inr (inr (inr (inr (inr (inr (inl (may-join union p h, refl, joined-to union q p))))))))
-  read-join intersect q p h = has fs e′ _ _ (inr (inr (inr (inr (inr (inr (inr (inl (may-join intersect p h, refl, joined-to intersect q p)))))))))
-  read-join except q p h = has fs e′ _ _ (inr (inr (inr (inr (inr (inr (inr (inr (inl (may-join except p h, refl, joined-to except q p))))))))))
+  read-join same q p h = has fs e′ _ _ (inr (inr (inr (inr (inr (inr (inl (may-join same p h, refl, joined-to same q p))))))))
+  read-join union q p h = has fs e′ _ _ (inr (inr (inr (inr (inr (inr (inr (inl (may-join union p h, refl, joined-to union q p)))))))))
+  read-join intersect q p h = has fs e′ _ _ (inr (inr (inr (inr (inr (inr (inr (inr (inl (may-join intersect p h, refl, joined-to intersect q p))))))))))
+  read-join except q p h = has fs e′ _ _ (inr (inr (inr (inr (inr (inr (inr (inr (inr (inl (may-join except p h, refl, joined-to except q p)))))))))))
   read-join (slash one) q p h =
-      has fs e′ _ _ (inr (inr (inr (inr (inr (inr (inr (inr (inr (inl (may-join (slash one) p h, refl, joined-to (slash one) q p)))))))))))
+      has fs e′ _ _ (inr (inr (inr (inr (inr (inr (inr (inr (inr (inr (inl (may-join (slash one) p h, refl, joined-to (slash one) q p))))))))))))
   read-join (slash two) q p h =
       then (state fs (have e′)) (state (left e (slash one) ∷ gs) want) (state (left e (slash two) ∷ gs) want) (ascii "/") (ascii "/")
-      (has fs e′ _ _ (inr (inr (inr (inr (inr (inr (inr (inr (inr (inl (may-join (slash one) p h, refl, joined-to (slash one) q p))))))))))))
+      (has fs e′ _ _ (inr (inr (inr (inr (inr (inr (inr (inr (inr (inr (inl (may-join (slash one) p h, refl, joined-to (slash one) q p)))))))))))))
       (read-slash (left e (slash one) ∷ gs) (left e (slash two) ∷ gs) refl refl)
 
 -- what may stand where
@@ -200,16 +204,17 @@ fits-less dot n m b c l f h = h
 fits-less dots n m b c l f h = h
 fits-less (variable k) n m b c l f h = h
 fits-less (bracket e) n m b c l f h = fits-less e 0 0 b c (omega arith) f h
+fits-less (closure e) n m b c l f h = h
 fits-less (negate e) n m b c l f h = raise b c (fits 0 true e) f h
 fits-less (is k) n m b c l f h = raise b c (elem k variables) f h
 fits-less (filter e t) n m b c l f h = h
 fits-less (rooted s e) n m b c l f h =
-    raise (leb m 4) (leb n 4) (fits 5 false e) (λ p. le-leb n 4 (omega (arith, leb-true m 4 p))) h
+    raise (leb m 5) (leb n 5) (fits 6 false e) (λ p. le-leb n 5 (omega (arith, leb-true m 5 p))) h
 fits-less (join o x y) n m b c l f h =
-    let rest = fits (level o) (logical o) x && fits (suc (level o)) (logical o) y in
+    let rest = fits (leftLevel o) (logical o) x && fits (suc (level o)) (logical o) y in
     both-yes
-    (le-leb n (level o) (omega (arith, leb-true m (level o) (yes-left (leb m (level o)) ((not (logical o) || b) && rest) h))))
-    (raise (not (logical o) || b) (not (logical o) || c) rest (either (not (logical o))) (yes-right (leb m (level o)) ((not (logical o) || b) && rest) h))
+    (le-leb n (level o) (omega (arith, leb-true m (level o) (yes-left (leb m (level o)) ((not (makesTest o) || b) && rest) h))))
+    (raise (not (makesTest o) || b) (not (makesTest o) || c) rest (either (not (makesTest o))) (yes-right (leb m (level o)) ((not (makesTest o) || b) && rest) h))
   where
     either : (a : Bool) → (a || b) ≡ true → (a || c) ≡ true
     either true p = refl
@@ -224,12 +229,14 @@ fits-path dot n h = refl
 fits-path dots n h = refl
 fits-path (variable k) n h = refl
 fits-path (bracket e) n h = fits-path e 0 h
+fits-path (closure e) n h = refl
 fits-path (negate e) n h = no-yes refl h
 fits-path (is k) n h = no-yes refl h
 fits-path (filter e t) n h = refl
 fits-path (rooted s e) n h = refl
 fits-path (join o x y) n h =
-    plain (not (logical o)) (yes-left (not (logical o) || false) (fits (level o) (logical o) x && fits (suc (level o)) (logical o) y) (yes-right (leb n (level o)) ((not (logical o) || false) && (fits (level o) (logical o) x && fits (suc (level o)) (logical o) y)) h))
+    let rest = fits (leftLevel o) (logical o) x && fits (suc (level o)) (logical o) y in
+    plain (not (makesTest o)) (yes-left (not (makesTest o) || false) rest (yes-right (leb n (level o)) ((not (makesTest o) || false) && rest) h))
   where
     plain : (a : Bool) → (a || false) ≡ true → a ≡ true
     plain true p = refl
@@ -238,31 +245,31 @@ fits-path (join o x y) n h =
 -- the parts of what is asked of operands
 pub record Operands (n : ℕ) (b : Bool) (o : Op) (l r : Expr) : Type 0 where
   pub binds : n ≤ level o
-  pub sorted : (not (logical o) || b) ≡ true
-  pub onLeft : fits (level o) (logical o) l ≡ true
+  pub sorted : (not (makesTest o) || b) ≡ true
+  pub onLeft : fits (leftLevel o) (logical o) l ≡ true
   pub onRight : fits (suc (level o)) (logical o) r ≡ true
 
 pub operands : (n : ℕ) (b : Bool) (o : Op) (l r : Expr) → fits n b (join o l r) ≡ true → Operands n b o l r
 unfolding fits
 operands n b o l r h =
-    let x = fits (level o) (logical o) l in
+    let x = fits (leftLevel o) (logical o) l in
     let y = fits (suc (level o)) (logical o) r in
-    let q = yes-right (leb n (level o)) ((not (logical o) || b) && (x && y)) h in
-    let z = yes-right (not (logical o) || b) (x && y) q in
+    let q = yes-right (leb n (level o)) ((not (makesTest o) || b) && (x && y)) h in
+    let z = yes-right (not (makesTest o) || b) (x && y) q in
     record {
-      binds = leb-true n (level o) (yes-left (leb n (level o)) ((not (logical o) || b) && (x && y)) h);
-      sorted = yes-left (not (logical o) || b) (x && y) q;
+      binds = leb-true n (level o) (yes-left (leb n (level o)) ((not (makesTest o) || b) && (x && y)) h);
+      sorted = yes-left (not (makesTest o) || b) (x && y) q;
       onLeft = yes-left x y z;
       onRight = yes-right x y z;
     }
 
-pub rooted-binds : (n : ℕ) (b : Bool) (s : Slash) (e : Expr) → fits n b (rooted s e) ≡ true → leb n 4 ≡ true
+pub rooted-binds : (n : ℕ) (b : Bool) (s : Slash) (e : Expr) → fits n b (rooted s e) ≡ true → leb n 5 ≡ true
 unfolding fits
-rooted-binds n b s e h = yes-left (leb n 4) (fits 5 false e) h
+rooted-binds n b s e h = yes-left (leb n 5) (fits 6 false e) h
 
-pub rooted-part : (n : ℕ) (b : Bool) (s : Slash) (e : Expr) → fits n b (rooted s e) ≡ true → fits 5 false e ≡ true
+pub rooted-part : (n : ℕ) (b : Bool) (s : Slash) (e : Expr) → fits n b (rooted s e) ≡ true → fits 6 false e ≡ true
 unfolding fits
-rooted-part n b s e h = yes-right (leb n 4) (fits 5 false e) h
+rooted-part n b s e h = yes-right (leb n 5) (fits 6 false e) h
 
 -- an expression read into a gap leaves gaps at its end, and its last part in the innermost
 unfoldable spine : Expr → List Frame → List Frame
@@ -272,6 +279,7 @@ spine dot fs = fs
 spine dots fs = fs
 spine (variable k) fs = fs
 spine (bracket e) fs = fs
+spine (closure e) fs = fs
 spine (negate e) fs = fs
 spine (is k) fs = fs
 spine (filter e t) fs = fs
@@ -285,6 +293,7 @@ tip dot = dot
 tip dots = dots
 tip (variable k) = variable k
 tip (bracket e) = bracket e
+tip (closure e) = closure e
 tip (negate e) = negate e
 tip (is k) = is k
 tip (filter e t) = filter e t
@@ -300,11 +309,12 @@ spine-opened dot n b fs h = refl
 spine-opened dots n b fs h = refl
 spine-opened (variable k) n b fs h = refl
 spine-opened (bracket e) n b fs h = refl
+spine-opened (closure e) n b fs h = refl
 spine-opened (negate e) n b fs h = refl
 spine-opened (is k) n b fs h = refl
 spine-opened (filter e t) n b fs h = refl
 spine-opened (rooted s e) n b fs h =
-    spine-opened e n false (lead s ∷ fs) (fits-less e n 5 false false (omega (arith, leb-true n 4 (rooted-binds n b s e h))) (λ p. p) (rooted-part n b s e h))
+    spine-opened e n false (lead s ∷ fs) (fits-less e n 6 false false (omega (arith, leb-true n 5 (rooted-binds n b s e h))) (λ p. p) (rooted-part n b s e h))
     ∙ rw (rooted-binds n b s e h)
 spine-opened (join o l r) n b fs h =
     let w = operands n b o l r h in
@@ -319,26 +329,51 @@ spine-closed dot n b fs h = refl
 spine-closed dots n b fs h = refl
 spine-closed (variable k) n b fs h = refl
 spine-closed (bracket e) n b fs h = refl
+spine-closed (closure e) n b fs h = refl
 spine-closed (negate e) n b fs h = refl
 spine-closed (is k) n b fs h = refl
 spine-closed (filter e t) n b fs h = refl
 spine-closed (rooted s e) n b fs h =
-    spine-closed e n false (lead s ∷ fs) (fits-less e n 5 false false (omega (arith, leb-true n 4 (rooted-binds n b s e h))) (λ p. p) (rooted-part n b s e h))
+    spine-closed e n false (lead s ∷ fs) (fits-less e n 6 false false (omega (arith, leb-true n 5 (rooted-binds n b s e h))) (λ p. p) (rooted-part n b s e h))
     ∙ rw (rooted-binds n b s e h)
 spine-closed (join o l r) n b fs h =
     let w = operands n b o l r h in
     spine-closed r n (logical o) (left l o ∷ fs) (fits-less r n (suc (level o)) (logical o) (logical o) (omega (arith, w .binds)) (λ p. p) (w .onRight))
     ∙ rw (le-leb n (level o) (w .binds))
 
-pub level-most : (o : Op) → level o ≤ 5
-level-most or = omega arith
-level-most and = omega arith
-level-most union = omega arith
-level-most intersect = omega arith
-level-most except = omega arith
-level-most (slash s) = omega arith
+-- a left operand binds at least as its operator does
+pub level-left : (o : Op) → level o ≤ leftLevel o
+level-left or = omega arith
+level-left and = omega arith
+level-left same = omega arith
+level-left union = omega arith
+level-left intersect = omega arith
+level-left except = omega arith
+level-left (slash s) = omega arith
 
-pub floor-most : (fs : List Frame) → floor fs ≤ 6
+pub left-most : (o : Op) → leftLevel o ≤ 6
+left-most or = omega arith
+left-most and = omega arith
+left-most same = omega arith
+left-most union = omega arith
+left-most intersect = omega arith
+left-most except = omega arith
+left-most (slash s) = omega arith
+
+pub level-most : (o : Op) → level o ≤ 6
+level-most o = omega (arith, level-left o, left-most o)
+
+-- what joins tests makes one
+tests-make : (o : Op) → logical o ≡ true → makesTest o ≡ true
+tests-make or h = refl
+tests-make and h = refl
+tests-make same h = refl
+tests-make union h = h
+tests-make intersect h = h
+tests-make except h = h
+tests-make (slash s) h = h
+
+pub floor-most : (fs : List Frame) → floor fs ≤ 7
 floor-most [] = omega arith
 floor-most (left l o ∷ fs) = omega (arith, level-most o)
 floor-most (lead s ∷ fs) = omega arith
@@ -347,7 +382,7 @@ floor-most (negation ∷ fs) = omega arith
 floor-most (test e ∷ fs) = omega arith
 
 -- what binds as tightly as a filter leaves no gap
-spine-tight : (e : Expr) (b : Bool) (fs : List Frame) → fits 6 b e ≡ true → (spine e fs ≡ fs) × (tip e ≡ e)
+spine-tight : (e : Expr) (b : Bool) (fs : List Frame) → fits 7 b e ≡ true → (spine e fs ≡ fs) × (tip e ≡ e)
 unfolding spine tip
 spine-tight (wildcard a w) b fs h = (refl, refl)
 spine-tight (named a name) b fs h = (refl, refl)
@@ -355,18 +390,19 @@ spine-tight dot b fs h = (refl, refl)
 spine-tight dots b fs h = (refl, refl)
 spine-tight (variable k) b fs h = (refl, refl)
 spine-tight (bracket e) b fs h = (refl, refl)
+spine-tight (closure e) b fs h = (refl, refl)
 spine-tight (negate e) b fs h = (refl, refl)
 spine-tight (is k) b fs h = (refl, refl)
 spine-tight (filter e t) b fs h = (refl, refl)
-spine-tight (rooted s e) b fs h = no-yes refl (rooted-binds 6 b s e h)
-spine-tight (join o l r) b fs h = absurd (omega (arith, operands 6 b o l r h .binds, level-most o))
+spine-tight (rooted s e) b fs h = no-yes refl (rooted-binds 7 b s e h)
+spine-tight (join o l r) b fs h = absurd (omega (arith, operands 7 b o l r h .binds, level-most o))
 
 -- nothing closes that binds less tightly
 floor-opened : (fs : List Frame) (n : ℕ) → floor fs ≤ n → opened n fs ≡ fs
 unfolding opened
 floor-opened [] n h = refl
 floor-opened (left l o ∷ fs) n h = rw (lt-leb n (level o) h)
-floor-opened (lead s ∷ fs) n h = rw (lt-leb n 4 h)
+floor-opened (lead s ∷ fs) n h = rw (lt-leb n 5 h)
 floor-opened (paren ∷ fs) n h = refl
 floor-opened (negation ∷ fs) n h = refl
 floor-opened (test e ∷ fs) n h = refl
@@ -375,16 +411,17 @@ floor-closed : (fs : List Frame) (n : ℕ) (e : Expr) → floor fs ≤ n → clo
 unfolding closed
 floor-closed [] n e h = refl
 floor-closed (left l o ∷ fs) n e h = rw (lt-leb n (level o) h)
-floor-closed (lead s ∷ fs) n e h = rw (lt-leb n 4 h)
+floor-closed (lead s ∷ fs) n e h = rw (lt-leb n 5 h)
 floor-closed (paren ∷ fs) n e h = refl
 floor-closed (negation ∷ fs) n e h = refl
 floor-closed (test x ∷ fs) n e h = refl
 
 -- a slash leads where a rooted path may stand
-slash-leads : (fs : List Frame) → leb (floor fs) 4 ≡ true → (maySlash fs ≡ true) × (slashed fs ≡ lead one ∷ fs)
+slash-leads : (fs : List Frame) → leb (floor fs) 5 ≡ true → (maySlash fs ≡ true) × (slashed fs ≡ lead one ∷ fs)
 slash-leads [] h = (refl, refl)
 slash-leads (left l or ∷ fs) h = (refl, refl)
 slash-leads (left l and ∷ fs) h = (refl, refl)
+slash-leads (left l same ∷ fs) h = (refl, refl)
 slash-leads (left l union ∷ fs) h = (refl, refl)
 slash-leads (left l intersect ∷ fs) h = (refl, refl)
 slash-leads (left l except ∷ fs) h = (refl, refl)
@@ -425,25 +462,40 @@ tip-path dot n h = fits-path dot n h
 tip-path dots n h = fits-path dots n h
 tip-path (variable k) n h = fits-path (variable k) n h
 tip-path (bracket e) n h = fits-path (bracket e) n h
+tip-path (closure e) n h = fits-path (closure e) n h
 tip-path (negate e) n h = fits-path (negate e) n h
 tip-path (is k) n h = fits-path (is k) n h
 tip-path (filter e t) n h = fits-path (filter e t) n h
-tip-path (rooted s e) n h = tip-path e 5 (rooted-part n false s e h)
+tip-path (rooted s e) n h = tip-path e 6 (rooted-part n false s e h)
 tip-path (join o l r) n h =
     let w = operands n false o l r h in
-    tip-path r (suc (level o)) (subst (λ (b : Bool). fits (suc (level o)) b r ≡ true) (plain (logical o) (w .sorted)) (w .onRight))
+    tip-path r (suc (level o)) (subst (λ (b : Bool). fits (suc (level o)) b r ≡ true) (plain (logical o) (makesTest o) (tests-make o) (w .sorted)) (w .onRight))
   where
-    plain : (a : Bool) → (not a || false) ≡ true → a ≡ false
-    plain true p = no-yes refl p
-    plain false p = refl
+    plain : (a m : Bool) → (a ≡ true → m ≡ true) → (not m || false) ≡ true → a ≡ false
+    plain true true f p = no-yes refl p
+    plain true false f p = no-yes refl (f refl)
+    plain false m f p = refl
 
 -- an operator may follow its left operand
-may-follow : (o : Op) (b : Bool) (l : Expr) → (not (logical o) || b) ≡ true → fits (level o) (logical o) l ≡ true → cond (logical o) b (isPath (tip l)) ≡ true
-may-follow o b l h f = go (logical o) h f
+may-follow : (o : Op) (b : Bool) (l : Expr) → (not (makesTest o) || b) ≡ true → fits (leftLevel o) (logical o) l ≡ true
+    → ((logical o || isPath (tip l)) && (not (makesTest o) || b)) ≡ true
+may-follow o b l h f = both-yes (go (logical o) f) h
   where
-    go : (a : Bool) → (not a || b) ≡ true → fits (level o) a l ≡ true → cond a b (isPath (tip l)) ≡ true
-    go true h f = h
-    go false h f = tip-path l (level o) f
+    go : (a : Bool) → fits (leftLevel o) a l ≡ true → (a || isPath (tip l)) ≡ true
+    go true f = refl
+    go false f = tip-path l (leftLevel o) f
+
+-- a bracket around what has been read
+read-in-bracket : (e : Expr) (fs : List Frame) (b : Bool) → fits 0 b e ≡ true → Reads (state (paren ∷ fs) want) (print e) (state (spine e (paren ∷ fs)) (have (tip e)))
+    → Reads (state fs want) (print (bracket e)) (state fs (have (bracket e)))
+unfolding print
+read-in-bracket e fs b h r =
+    let gs = spine e (paren ∷ fs) in
+    then (state fs want) (state (paren ∷ fs) want) (state fs (have (bracket e))) (ascii "(") (print e ++ ascii ")") (read-open fs)
+    (then (state (paren ∷ fs) want) (state gs (have (tip e))) (state fs (have (bracket e))) (print e) (ascii ")") r
+    (read-bracket gs (tip e) e fs
+    (spine-closed e 0 b (paren ∷ fs) h ∙ floor-closed (paren ∷ fs) 0 e (omega arith))
+    (spine-opened e 0 b (paren ∷ fs) h ∙ floor-opened (paren ∷ fs) 0 (omega arith))))
 
 -- every expression is read where it may stand
 read : (e : Expr) (fs : List Frame) → fits (floor fs) (takesTest fs) e ≡ true → Reads (state fs want) (print e) (state (spine e fs) (have (tip e)))
@@ -462,14 +514,12 @@ read (named a (b ∷ bs)) fs h =
 read dot fs h = read-dot fs
 read dots fs h = then (state fs want) (state fs (have dot)) (state fs (have dots)) (ascii ".") (ascii ".") (read-dot fs) (read-dots fs)
 read (variable k) fs h = read-variable fs k h
-read (bracket e) fs h =
-    let gs = spine e (paren ∷ fs) in
-    then (state fs want) (state (paren ∷ fs) want) (state fs (have (bracket e))) (ascii "(") (print e ++ ascii ")") (read-open fs)
-    (then (state (paren ∷ fs) want) (state gs (have (tip e))) (state fs (have (bracket e))) (print e) (ascii ")")
-    (read e (paren ∷ fs) h)
-    (read-bracket gs (tip e) e fs
-    (spine-closed e 0 (takesTest fs) (paren ∷ fs) h ∙ floor-closed (paren ∷ fs) 0 e (omega arith))
-    (spine-opened e 0 (takesTest fs) (paren ∷ fs) h ∙ floor-opened (paren ∷ fs) 0 (omega arith))))
+read (bracket e) fs h = read-in-bracket e fs (takesTest fs) h (read e (paren ∷ fs) h)
+read (closure e) fs h =
+    subst (λ (w : List ℕ). Reads (state fs want) w (state fs (have (closure e)))) (ap (λ (l : List ℕ). ascii "(" ++ l) (append-assoc (print e) (ascii ")") (ascii "*")))
+    (then (state fs want) (state fs (have (bracket e))) (state fs (have (closure e))) (print (bracket e)) (ascii "*")
+    (read-in-bracket e fs false h (read e (paren ∷ fs) (fits-less e 0 0 false (takesTest fs) (omega arith) (λ p. no-yes refl p) h)))
+    (read-closure fs e (fits-path e 0 h)))
 read (negate e) fs h =
     let gs = spine e (negation ∷ fs) in
     let f : fits 0 true e ≡ true = yes-right (takesTest fs) (fits 0 true e) h in
@@ -485,13 +535,13 @@ read (is k) fs h =
     (read-is fs k (yes-right (takesTest fs) (elem k variables) h) (yes-left (takesTest fs) (elem k variables) h))
 read (filter e t) fs h =
     let gs = spine t (test e ∷ fs) in
-    let f : fits 6 false e ≡ true = yes-left (fits 6 false e) (fits 0 true t) h in
-    let g : fits 0 true t ≡ true = yes-right (fits 6 false e) (fits 0 true t) h in
+    let f : fits 7 false e ≡ true = yes-left (fits 7 false e) (fits 0 true t) h in
+    let g : fits 0 true t ≡ true = yes-right (fits 7 false e) (fits 0 true t) h in
     then (state fs want) (state fs (have e)) (state fs (have (filter e t))) (print e) (ascii "[" ++ (print t ++ ascii "]"))
-    (read e fs (fits-less e (floor fs) 6 false (takesTest fs) (floor-most fs) (λ p. no-yes refl p) f)
+    (read e fs (fits-less e (floor fs) 7 false (takesTest fs) (floor-most fs) (λ p. no-yes refl p) f)
     ∙ (let w = spine-tight e false fs f in rw (w .0, w .1)))
     (then (state fs (have e)) (state (test e ∷ fs) want) (state fs (have (filter e t))) (ascii "[") (print t ++ ascii "]")
-    (read-test fs e (fits-path e 6 f))
+    (read-test fs e (fits-path e 7 f))
     (then (state (test e ∷ fs) want) (state gs (have (tip t))) (state fs (have (filter e t))) (print t) (ascii "]")
     (read t (test e ∷ fs) g)
     (read-filter gs (tip t) t fs
@@ -499,26 +549,27 @@ read (filter e t) fs h =
     e
     (spine-opened t 0 true (test e ∷ fs) g ∙ floor-opened (test e ∷ fs) 0 (omega arith)))))
 read (rooted one e) fs h =
-    let w = slash-leads fs (yes-left (leb (floor fs) 4) (fits 5 false e) h) in
+    let w = slash-leads fs (yes-left (leb (floor fs) 5) (fits 6 false e) h) in
     then (state fs want) (state (lead one ∷ fs) want) (state (spine e (lead one ∷ fs)) (have (tip e))) (ascii "/") (print e)
     (read-slash fs (lead one ∷ fs) (w .0) (w .1))
-    (read e (lead one ∷ fs) (yes-right (leb (floor fs) 4) (fits 5 false e) h))
+    (read e (lead one ∷ fs) (yes-right (leb (floor fs) 5) (fits 6 false e) h))
 read (rooted two e) fs h =
-    let w = slash-leads fs (yes-left (leb (floor fs) 4) (fits 5 false e) h) in
+    let w = slash-leads fs (yes-left (leb (floor fs) 5) (fits 6 false e) h) in
     then (state fs want) (state (lead two ∷ fs) want) (state (spine e (lead two ∷ fs)) (have (tip e))) (ascii "//") (print e)
     (then (state fs want) (state (lead one ∷ fs) want) (state (lead two ∷ fs) want) (ascii "/") (ascii "/")
     (read-slash fs (lead one ∷ fs) (w .0) (w .1))
     (read-slash (lead one ∷ fs) (lead two ∷ fs) refl refl))
-    (read e (lead two ∷ fs) (yes-right (leb (floor fs) 4) (fits 5 false e) h))
+    (read e (lead two ∷ fs) (yes-right (leb (floor fs) 5) (fits 6 false e) h))
 read (join o l r) fs h =
     let w = operands (floor fs) (takesTest fs) o l r h in
+    let low : floor fs ≤ leftLevel o = omega (arith, w .binds, level-left o) in
     let gs = spine l fs in
     then (state fs want) (state gs (have (tip l))) (state (spine r (left l o ∷ fs)) (have (tip r))) (print l) (word o ++ print r)
-    (read l fs (fits-less l (floor fs) (level o) (logical o) (takesTest fs) (w .binds) (either-sort (logical o) (takesTest fs) (w .sorted)) (w .onLeft)))
+    (read l fs (fits-less l (floor fs) (leftLevel o) (logical o) (takesTest fs) low (λ p. either-sort (makesTest o) (takesTest fs) (w .sorted) (tests-make o p)) (w .onLeft)))
     (then (state gs (have (tip l))) (state (left l o ∷ fs) want) (state (spine r (left l o ∷ fs)) (have (tip r))) (word o) (print r)
     (read-join gs (tip l) l fs o
-    (spine-closed l (level o) (logical o) fs (w .onLeft) ∙ floor-closed fs (level o) l (w .binds))
-    (spine-opened l (level o) (logical o) fs (w .onLeft) ∙ floor-opened fs (level o) (w .binds))
+    (spine-closed l (leftLevel o) (logical o) fs (w .onLeft) ∙ floor-closed fs (leftLevel o) l low)
+    (spine-opened l (leftLevel o) (logical o) fs (w .onLeft) ∙ floor-opened fs (leftLevel o) low)
     (may-follow o (takesTest fs) l (w .sorted) (w .onLeft)))
     (read r (left l o ∷ fs) (w .onRight)))
 

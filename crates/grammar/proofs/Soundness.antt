@@ -9,21 +9,21 @@ use borrow.Author.Tests.{leb-true, leb-false, le-leb, eq-eqb}
 use Rattle.model.proofs.Booleans.{no-yes, yes-left, yes-right, both-yes, or-left, or-right}
 use Rattle.model.specs.Lists.{equal}
 use Rattle.model.proofs.Lists.{equal-is}
-use Rattle.grammar.specs.Grammar.{Expr, Op, Grammatical, Viable, ascii, elem, axes, axisWord, variables, nameBytes, allName, isName, level, logical, slashWord, word, print, fits}
+use Rattle.grammar.specs.Grammar.{Expr, Op, Grammatical, Viable, ascii, elem, axes, axisWord, variables, nameBytes, allName, isName, level, leftLevel, logical, makesTest, slashWord, word, print, fits}
 use Rattle.grammar.specs.Grammar.Slash.{one, two}
 use Rattle.grammar.specs.Grammar.Wildcard.{star}
-use Rattle.grammar.specs.Grammar.Op.{or, and, union, intersect, except, slash}
-use Rattle.grammar.specs.Grammar.Expr.{wildcard, named, dot, dots, variable, bracket, negate, is, filter, rooted, join}
+use Rattle.grammar.specs.Grammar.Op.{or, and, same, union, intersect, except, slash}
+use Rattle.grammar.specs.Grammar.Expr.{wildcard, named, dot, dots, variable, bracket, closure, negate, is, filter, rooted, join}
 use Rattle.grammar.specs.Online.{Choice, Place, run, isDead}
 use Rattle.grammar.specs.Online.Choice.{choice}
 use Rattle.grammar.specs.Online.Place.{dead, between, within}
-use Rattle.grammar.specs.Automaton.{Frame, Focus, State, takesTest, floor, opened, closed, isPath, maySlash, slashed, mayFilter, filtered, mayParen, parenthesised, isDot, mayJoin, joined, each, axisChoice, variableChoice, nameChoice, isNamed, nameOf, longer, isNode, asNode, longerChoice, isChoice, next, start, whole, outcomeOf}
+use Rattle.grammar.specs.Automaton.{Frame, Focus, State, takesTest, floor, opened, closed, isPath, maySlash, slashed, mayFilter, filtered, mayParen, parenthesised, isDot, mayJoin, joined, each, axisChoice, variableChoice, nameChoice, isNamed, nameOf, longer, isNode, asNode, isGroup, asClosure, longerChoice, isChoice, next, start, whole, outcomeOf}
 use Rattle.grammar.specs.Automaton.Frame.{left, lead, paren, negation, test}
 use Rattle.grammar.specs.Automaton.Focus.{want, axis, have}
 use Rattle.grammar.specs.Automaton.State.{state}
 use Rattle.grammar.specs.Automaton.Outcome.{accepted, refused}
 use Rattle.grammar.proofs.Online.{Leads, Good, run-good}
-use Rattle.grammar.proofs.Reading.{fits-less, Operands, level-most, floor-most}
+use Rattle.grammar.proofs.Reading.{fits-less, Operands, left-most, floor-most}
 
 -- the bytes before a gap, and those of what stands in it
 unfoldable pub shown : List Frame → List ℕ
@@ -42,16 +42,16 @@ inFocus (have e) = print e
 -- what stands before each gap may stand there
 abbrev pub Fine : List Frame → Type 0
 Fine [] = Unit {0}
-Fine (left l o ∷ fs) = (fits (level o) (logical o) l ≡ true) × (floor fs ≤ level o) × ((not (logical o) || takesTest fs) ≡ true) × Fine fs
-Fine (lead s ∷ fs) = (floor fs ≤ 4) × Fine fs
+Fine (left l o ∷ fs) = (fits (leftLevel o) (logical o) l ≡ true) × (floor fs ≤ level o) × ((not (makesTest o) || takesTest fs) ≡ true) × Fine fs
+Fine (lead s ∷ fs) = (floor fs ≤ 5) × Fine fs
 Fine (paren ∷ fs) = Fine fs
 Fine (negation ∷ fs) = (takesTest fs ≡ true) × Fine fs
-Fine (test e ∷ fs) = (fits 6 false e ≡ true) × Fine fs
+Fine (test e ∷ fs) = (fits 7 false e ≡ true) × Fine fs
 
 abbrev pub FineIn : List Frame → Focus → Type 0
 FineIn fs want = Unit {0}
 FineIn fs (axis a) = elem a axes ≡ true
-FineIn fs (have e) = fits 6 (takesTest fs) e ≡ true
+FineIn fs (have e) = fits 7 (takesTest fs) e ≡ true
 
 -- s is the state when c has been read
 abbrev pub After : State → List ℕ → Type 0
@@ -70,26 +70,27 @@ fits-plain dot n b h p = h
 fits-plain dots n b h p = h
 fits-plain (variable k) n b h p = h
 fits-plain (bracket e) n b h p = fits-plain e 0 b h p
+fits-plain (closure e) n b h p = h
 fits-plain (negate e) n b h p = no-yes refl p
 fits-plain (is k) n b h p = no-yes refl p
 fits-plain (filter e t) n b h p = h
 fits-plain (rooted s e) n b h p = h
 fits-plain (join o l r) n b h p =
-    let z = fits (level o) (logical o) l && fits (suc (level o)) (logical o) r in
-    both-yes (yes-left (leb n (level o)) ((not (logical o) || b) && z) h)
-    (both-yes (or-left (not (logical o)) false p) (yes-right (not (logical o) || b) z (yes-right (leb n (level o)) ((not (logical o) || b) && z) h)))
+    let z = fits (leftLevel o) (logical o) l && fits (suc (level o)) (logical o) r in
+    both-yes (yes-left (leb n (level o)) ((not (makesTest o) || b) && z) h)
+    (both-yes (or-left (not (makesTest o)) false p) (yes-right (not (makesTest o) || b) z (yes-right (leb n (level o)) ((not (makesTest o) || b) && z) h)))
 
 -- closing gaps
 pub record Closing (n : ℕ) (fs : List Frame) (e : Expr) (gs : List Frame) (d : Expr) : Type 0 where
   pub fine : Fine gs
   pub low : floor gs ≤ n
   pub fit : fits n (takesTest gs) d ≡ true
-  pub same : shown gs ++ print d ≡ shown fs ++ print e
+  pub looks : shown gs ++ print d ≡ shown fs ++ print e
 
 pub closing : (fs : List Frame) (n m : ℕ) (e : Expr) → Fine fs → n ≤ m → floor fs ≤ m → fits m (takesTest fs) e ≡ true
     → Closing n fs e (opened n fs) (closed n fs e)
 unfolding opened closed fits
-closing [] n m e f l k h = record { fine = tt; low = omega arith; fit = fits-less e n m false false l (λ p. p) h; same = refl }
+closing [] n m e f l k h = record { fine = tt; low = omega arith; fit = fits-less e n m false false l (λ p. p) h; looks = refl }
 closing (left x o ∷ fs) n m e f l k h = go (leb n (level o)) refl (λ q. closing fs n (level o) (join o x e) (f .3) q (f .1) (fits-join (level o) (takesTest fs) o x e (record { binds = omega arith; sorted = f .2; onLeft = f .0; onRight = fits-less e (suc (level o)) m (logical o) (logical o) k (λ p. p) h })))
   where
     regroup : (a b c d : List ℕ) → a ++ (b ++ (c ++ d)) ≡ (a ++ (b ++ c)) ++ d
@@ -100,20 +101,20 @@ closing (left x o ∷ fs) n m e f l k h = go (leb n (level o)) refl (λ q. closi
         → Closing n (left x o ∷ fs) e (cond t (opened n fs) (left x o ∷ fs)) (cond t (closed n fs (join o x e)) e)
     go true q r =
         let w = r (leb-true n (level o) q) in
-        record { fine = w .fine; low = w .low; fit = w .fit; same = w .same ∙ unfold shown print in regroup (shown fs) (print x) (word o) (print e) }
-    go false q r = record { fine = f; low = leb-false n (level o) q; fit = fits-less e n m (logical o) (logical o) l (λ p. p) h; same = refl }
-closing (lead s ∷ fs) n m e f l k h = go (leb n 4) refl (λ q. closing fs n 4 (rooted s e) (f .1) q (f .0) (both-yes refl (fits-less e 5 m false false k (λ p. p) h)))
+        record { fine = w .fine; low = w .low; fit = w .fit; looks = w .looks ∙ unfold shown print in regroup (shown fs) (print x) (word o) (print e) }
+    go false q r = record { fine = f; low = leb-false n (level o) q; fit = fits-less e n m (logical o) (logical o) l (λ p. p) h; looks = refl }
+closing (lead s ∷ fs) n m e f l k h = go (leb n 5) refl (λ q. closing fs n 5 (rooted s e) (f .1) q (f .0) (both-yes refl (fits-less e 6 m false false k (λ p. p) h)))
   where
     go :
-        (t : Bool) → leb n 4 ≡ t → (n ≤ 4 → Closing n fs (rooted s e) (opened n fs) (closed n fs (rooted s e)))
+        (t : Bool) → leb n 5 ≡ t → (n ≤ 5 → Closing n fs (rooted s e) (opened n fs) (closed n fs (rooted s e)))
         → Closing n (lead s ∷ fs) e (cond t (opened n fs) (lead s ∷ fs)) (cond t (closed n fs (rooted s e)) e)
     go true q r =
-        let w = r (leb-true n 4 q) in
-        record { fine = w .fine; low = w .low; fit = w .fit; same = w .same ∙ unfold shown print in sym (append-assoc (shown fs) (slashWord s) (print e)) }
-    go false q r = record { fine = f; low = leb-false n 4 q; fit = fits-less e n m false false l (λ p. p) h; same = refl }
-closing (paren ∷ fs) n m e f l k h = record { fine = f; low = omega arith; fit = fits-less e n m (takesTest fs) (takesTest fs) l (λ p. p) h; same = refl }
-closing (negation ∷ fs) n m e f l k h = record { fine = f; low = omega arith; fit = fits-less e n m true true l (λ p. p) h; same = refl }
-closing (test x ∷ fs) n m e f l k h = record { fine = f; low = omega arith; fit = fits-less e n m true true l (λ p. p) h; same = refl }
+        let w = r (leb-true n 5 q) in
+        record { fine = w .fine; low = w .low; fit = w .fit; looks = w .looks ∙ unfold shown print in sym (append-assoc (shown fs) (slashWord s) (print e)) }
+    go false q r = record { fine = f; low = leb-false n 5 q; fit = fits-less e n m false false l (λ p. p) h; looks = refl }
+closing (paren ∷ fs) n m e f l k h = record { fine = f; low = omega arith; fit = fits-less e n m (takesTest fs) (takesTest fs) l (λ p. p) h; looks = refl }
+closing (negation ∷ fs) n m e f l k h = record { fine = f; low = omega arith; fit = fits-less e n m true true l (λ p. p) h; looks = refl }
+closing (test x ∷ fs) n m e f l k h = record { fine = f; low = omega arith; fit = fits-less e n m true true l (λ p. p) h; looks = refl }
 
 -- the choices of each state lead to the states after them
 
@@ -141,7 +142,7 @@ module _ (c : List ℕ) where
     unfolding inFocus
     to-axis a p f h = (f, h, ap (λ (l : List ℕ). l ++ axisWord a) (sym (append-nil (shown fs)) ∙ ap (λ (l : List ℕ). shown fs ++ l) (sym p) ∙ look))
 
-    to-have : (e : Expr) (w : List ℕ) → Fine fs → fits 6 (takesTest fs) e ≡ true → print e ≡ x ++ w → After (state fs (have e)) (c ++ w)
+    to-have : (e : Expr) (w : List ℕ) → Fine fs → fits 7 (takesTest fs) e ≡ true → print e ≡ x ++ w → After (state fs (have e)) (c ++ w)
     unfolding inFocus
     to-have e w f h p =
         (f, h, ap (λ (l : List ℕ). shown fs ++ l) p ∙ sym (append-assoc (shown fs) x w) ∙ ap (λ (l : List ℕ). l ++ w) look)
@@ -151,6 +152,7 @@ unfolding shown
 slash-fine [] f h = ((omega arith, tt), refl)
 slash-fine (left l or ∷ fs) f h = ((omega arith, f), refl)
 slash-fine (left l and ∷ fs) f h = ((omega arith, f), refl)
+slash-fine (left l same ∷ fs) f h = ((omega arith, f), refl)
 slash-fine (left l union ∷ fs) f h = ((omega arith, f), refl)
 slash-fine (left l intersect ∷ fs) f h = ((omega arith, f), refl)
 slash-fine (left l except ∷ fs) f h = ((omega arith, f), refl)
@@ -180,6 +182,7 @@ by-name P f dot n = no-yes refl n
 by-name P f dots n = no-yes refl n
 by-name P f (variable k) n = no-yes refl n
 by-name P f (bracket e) n = no-yes refl n
+by-name P f (closure e) n = no-yes refl n
 by-name P f (negate e) n = no-yes refl n
 by-name P f (is k) n = no-yes refl n
 by-name P f (filter e t) n = no-yes refl n
@@ -197,10 +200,25 @@ by-node P f e h =
     (λ a name n. subst (λ (l : List ℕ). P (named a l)) (sym (equal-is name (ascii "node") n)) (f a))
     e (node-named e h) (yes-right (isNamed e) (equal (nameOf e) (ascii "node")) h)
 
+-- what holds of every bracket around a path
+pub by-group : (P : Expr → Type 0) → ((e : Expr) → isPath e ≡ true → P (bracket e)) → (e : Expr) → isGroup e ≡ true → P e
+by-group P f (wildcard a w) h = no-yes refl h
+by-group P f (named a name) h = no-yes refl h
+by-group P f dot h = no-yes refl h
+by-group P f dots h = no-yes refl h
+by-group P f (variable k) h = no-yes refl h
+by-group P f (bracket e) h = f e h
+by-group P f (closure e) h = no-yes refl h
+by-group P f (negate e) h = no-yes refl h
+by-group P f (is k) h = no-yes refl h
+by-group P f (filter e t) h = no-yes refl h
+by-group P f (rooted s e) h = no-yes refl h
+by-group P f (join o l r) h = no-yes refl h
+
 module _ (t : Bool) where
   -- e goes on as x with the bytes w
   abbrev GoesOn : Expr → Expr → List ℕ → Type 0
-  GoesOn e x w = fits 6 t e ≡ true → (fits 6 t x ≡ true) × (print x ≡ print e ++ w)
+  GoesOn e x w = fits 7 t e ≡ true → (fits 7 t x ≡ true) × (print x ≡ print e ++ w)
 
   longer-fine : (e : Expr) (b : ℕ) → elem b nameBytes ≡ true → isNamed e ≡ true → GoesOn e (longer e b) (b ∷ [])
   unfolding fits print
@@ -216,6 +234,13 @@ module _ (t : Bool) where
       (λ a f. (yes-left (elem a axes) (isName (ascii "node")) f, sym (append-assoc (axisWord a) (ascii "node") (ascii "()"))))
       e n
 
+  group-fine : (e : Expr) → isGroup e ≡ true → GoesOn e (asClosure e) (ascii "*")
+  unfolding fits print
+  group-fine e n =
+      by-group (λ (x : Expr). GoesOn x (asClosure x) (ascii "*"))
+      (λ d p f. (fits-plain d 0 t f p, ap (λ (l : List ℕ). ascii "(" ++ l) (sym (append-assoc (print d) (ascii ")") (ascii "*")))))
+      e n
+
 pub dot-is : (e : Expr) → isDot e ≡ true → e ≡ dot
 dot-is (wildcard a w) h = no-yes refl h
 dot-is (named a name) h = no-yes refl h
@@ -223,6 +248,7 @@ dot-is dot h = refl
 dot-is dots h = no-yes refl h
 dot-is (variable k) h = no-yes refl h
 dot-is (bracket e) h = no-yes refl h
+dot-is (closure e) h = no-yes refl h
 dot-is (negate e) h = no-yes refl h
 dot-is (is k) h = no-yes refl h
 dot-is (filter e x) h = no-yes refl h
@@ -261,33 +287,30 @@ parenthesised-after c (negation ∷ fs) d f h e m =
 parenthesised-after c (test x ∷ fs) d f h e m = no-yes refl m
 
 -- an operator follows
-sort-of : (o : Op) (b : Bool) (d : Expr) (n : ℕ) → fits n b d ≡ true → cond (logical o) b (isPath d) ≡ true
-    → (fits n (logical o) d ≡ true) × ((not (logical o) || b) ≡ true)
-sort-of o b d n h m = go (logical o) m
-  where
-    go : (a : Bool) → cond a b (isPath d) ≡ true → (fits n a d ≡ true) × ((not a || b) ≡ true)
-    go true p = (fits-less d n n b true (omega arith) (λ _. refl) h, p)
-    go false p = (fits-plain d n b h p, refl)
+sort-of : (a b : Bool) (d : Expr) (n : ℕ) → fits n b d ≡ true → (a || isPath d) ≡ true → fits n a d ≡ true
+sort-of true b d n h p = fits-less d n n b true (omega arith) (λ _. refl) h
+sort-of false b d n h p = fits-plain d n b h p
 
--- the operators that bind more tightly than ' and ' join paths
-pub joins-paths : (o : Op) → 2 ≤ level o → not (logical o) ≡ true
+-- the operators that bind more tightly than ' same ' make paths
+pub joins-paths : (o : Op) → 3 ≤ level o → not (makesTest o) ≡ true
 joins-paths or k = absurd (omega arith)
 joins-paths and k = absurd (omega arith)
+joins-paths same k = absurd (omega arith)
 joins-paths union k = refl
 joins-paths intersect k = refl
 joins-paths except k = refl
 joins-paths (slash s) k = refl
 
--- closing gaps keeps a path a path, where only paths are joined
-pub path-closed : (fs : List Frame) (n : ℕ) (e : Expr) → 2 ≤ n → isPath e ≡ true → isPath (closed n fs e) ≡ true
+-- closing gaps keeps a path a path, where only paths are made
+pub path-closed : (fs : List Frame) (n : ℕ) (e : Expr) → 3 ≤ n → isPath e ≡ true → isPath (closed n fs e) ≡ true
 unfolding closed isPath
 path-closed [] n e l h = h
 path-closed (left x o ∷ fs) n e l h = go (leb n (level o)) refl (path-closed fs n (join o x e) l)
   where
-    go : (t : Bool) → leb n (level o) ≡ t → (not (logical o) ≡ true → isPath (closed n fs (join o x e)) ≡ true) → isPath (cond t (closed n fs (join o x e)) e) ≡ true
+    go : (t : Bool) → leb n (level o) ≡ t → (not (makesTest o) ≡ true → isPath (closed n fs (join o x e)) ≡ true) → isPath (cond t (closed n fs (join o x e)) e) ≡ true
     go true p ih = ih (joins-paths o (omega (arith, leb-true n (level o) p)))
     go false p ih = h
-path-closed (lead s ∷ fs) n e l h = go (leb n 4) (path-closed fs n (rooted s e) l refl)
+path-closed (lead s ∷ fs) n e l h = go (leb n 5) (path-closed fs n (rooted s e) l refl)
   where
     go : (t : Bool) → isPath (closed n fs (rooted s e)) ≡ true → isPath (cond t (closed n fs (rooted s e)) e) ≡ true
     go true ih = ih
@@ -296,23 +319,52 @@ path-closed (paren ∷ fs) n e l h = h
 path-closed (negation ∷ fs) n e l h = h
 path-closed (test x ∷ fs) n e l h = h
 
-joined-path : (o : Op) (b : Bool) (fs : List Frame) (e : Expr) → cond (logical o) b (isPath e) ≡ true → cond (logical o) b (isPath (closed (level o) fs e)) ≡ true
-joined-path or b fs e h = h
-joined-path and b fs e h = h
-joined-path union b fs e h = path-closed fs 2 e (omega arith) h
-joined-path intersect b fs e h = path-closed fs 3 e (omega arith) h
-joined-path except b fs e h = path-closed fs 3 e (omega arith) h
-joined-path (slash s) b fs e h = path-closed fs 5 e (omega arith) h
+-- what an operator joins stays a path when the gaps before it close
+joined-path : (o : Op) (fs : List Frame) (e : Expr) → (logical o || isPath e) ≡ true → (logical o || isPath (closed (leftLevel o) fs e)) ≡ true
+joined-path or fs e h = refl
+joined-path and fs e h = refl
+joined-path same fs e h = path-closed fs (leftLevel same) e (omega arith) h
+joined-path union fs e h = path-closed fs (leftLevel union) e (omega arith) h
+joined-path intersect fs e h = path-closed fs (leftLevel intersect) e (omega arith) h
+joined-path except fs e h = path-closed fs (leftLevel except) e (omega arith) h
+joined-path (slash s) fs e h = path-closed fs (leftLevel (slash s)) e (omega arith) h
 
-joined-after : (o : Op) (c : List ℕ) (fs : List Frame) (e : Expr) → Closing (level o) fs e (opened (level o) fs) (closed (level o) fs e)
+-- a gap that takes a test takes one that ' same ' makes
+test-low : (fs : List Frame) → takesTest fs ≡ true → floor fs ≤ 2
+test-low [] h = no-yes refl h
+test-low (left l or ∷ fs) h = omega arith
+test-low (left l and ∷ fs) h = omega arith
+test-low (left l same ∷ fs) h = no-yes refl h
+test-low (left l union ∷ fs) h = no-yes refl h
+test-low (left l intersect ∷ fs) h = no-yes refl h
+test-low (left l except ∷ fs) h = no-yes refl h
+test-low (left l (slash s) ∷ fs) h = no-yes refl h
+test-low (lead s ∷ fs) h = no-yes refl h
+test-low (paren ∷ fs) h = omega arith
+test-low (negation ∷ fs) h = omega arith
+test-low (test e ∷ fs) h = omega arith
+
+-- an operator may stand in the gap that its left operand has left open
+joined-low : (o : Op) (fs : List Frame) → floor fs ≤ leftLevel o → (not (makesTest o) || takesTest fs) ≡ true → floor fs ≤ level o
+joined-low or fs l h = l
+joined-low and fs l h = l
+joined-low same fs l h = test-low fs h
+joined-low union fs l h = l
+joined-low intersect fs l h = l
+joined-low except fs l h = l
+joined-low (slash s) fs l h = l
+
+joined-after : (o : Op) (c : List ℕ) (fs : List Frame) (e : Expr) → Closing (leftLevel o) fs e (opened (leftLevel o) fs) (closed (leftLevel o) fs e)
     → shown fs ++ print e ≡ c → mayJoin o fs e ≡ true → After (joined o fs e) (c ++ word o)
 unfolding mayJoin joined shown
 joined-after o c fs e w look m =
-    let gs = opened (level o) fs in
-    let d = closed (level o) fs e in
-    let p = sort-of o (takesTest gs) d (level o) (w .fit) (joined-path o (takesTest gs) fs e m) in
-    to-want c (left d o ∷ gs) (word o) (p .0, w .low, p .1, w .fine)
-    (sym (append-assoc (shown gs) (print d) (word o)) ∙ ap (λ (l : List ℕ). l ++ word o) (w .same ∙ look))
+    let gs = opened (leftLevel o) fs in
+    let d = closed (leftLevel o) fs e in
+    let p = yes-left (logical o || isPath e) (not (makesTest o) || takesTest gs) m in
+    let q = yes-right (logical o || isPath e) (not (makesTest o) || takesTest gs) m in
+    to-want c (left d o ∷ gs) (word o)
+    (sort-of (logical o) (takesTest gs) d (leftLevel o) (w .fit) (joined-path o fs e p), joined-low o gs (w .low) q, q, w .fine)
+    (sym (append-assoc (shown gs) (print d) (word o)) ∙ ap (λ (l : List ℕ). l ++ word o) (w .looks ∙ look))
 
 -- every choice of every state
 pub on : (s : State) (c : List ℕ) → After s c → Leads After c (next s)
@@ -346,26 +398,32 @@ on (state fs (have e)) c (f, h, look) =
     (λ k i. (λ n. to-have c fs (print e) look (is k) (ascii " is $" ++ (48 + k) ∷ []) f (both-yes (yes-right (isDot e) (takesTest fs) n) i) (rw (dot-is e (yes-left (isDot e) (takesTest fs) n))), tt)) (
       λ n. to-have c fs (print e) look dots (ascii ".") f refl (rw (dot-is e n)),
       (
-        λ n. to-want c (test e ∷ fs) (ascii "[") (fits-plain e 6 (takesTest fs) h n, f) (sym (append-assoc (shown fs) (print e) (ascii "[")) ∙ ap (λ (l : List ℕ). l ++ ascii "[") look),
+        λ n. to-want c (test e ∷ fs) (ascii "[") (fits-plain e 7 (takesTest fs) h n, f) (sym (append-assoc (shown fs) (print e) (ascii "[")) ∙ ap (λ (l : List ℕ). l ++ ascii "[") look),
         (
-          λ n. filtered-after c (opened 0 fs) (closed 0 fs e) (w0 .fine) (w0 .fit) (w0 .same ∙ look) n,
+          λ n. filtered-after c (opened 0 fs) (closed 0 fs e) (w0 .fine) (w0 .fit) (w0 .looks ∙ look) n,
           (
-            λ n. parenthesised-after c (opened 0 fs) (closed 0 fs e) (w0 .fine) (w0 .fit) (w0 .same ∙ look) n,
+            λ n. parenthesised-after c (opened 0 fs) (closed 0 fs e) (w0 .fine) (w0 .fit) (w0 .looks ∙ look) n,
             (
               joins or,
               (
                 joins and,
                 (
-                  joins union,
+                  joins same,
                   (
-                    joins intersect,
+                    joins union,
                     (
-                      joins except,
+                      joins intersect,
                       (
-                        joins (slash one),
+                        joins except,
                         (
-                          λ n. let w = node-fine (takesTest fs) e n h in to-have c fs (print e) look (asNode e) (ascii "()") f (w .0) (w .1),
-                          tt,
+                          joins (slash one),
+                          (
+                            λ n. let w = node-fine (takesTest fs) e n h in to-have c fs (print e) look (asNode e) (ascii "()") f (w .0) (w .1),
+                            (
+                              λ n. let w = group-fine (takesTest fs) e n h in to-have c fs (print e) look (asClosure e) (ascii "*") f (w .0) (w .1),
+                              tt,
+                            ),
+                          ),
                         ),
                       ),
                     ),
@@ -378,14 +436,14 @@ on (state fs (have e)) c (f, h, look) =
       ),
     ))
   where
-    shut : (n : ℕ) → n ≤ 6 → Closing n fs e (opened n fs) (closed n fs e)
-    shut n l = closing fs n 6 e f l (floor-most fs) h
+    shut : (n : ℕ) → n ≤ 7 → Closing n fs e (opened n fs) (closed n fs e)
+    shut n l = closing fs n 7 e f l (floor-most fs) h
 
     w0 : Closing 0 fs e (opened 0 fs) (closed 0 fs e)
     w0 = shut 0 (omega arith)
 
     joins : (o : Op) → mayJoin o fs e ≡ true → After (joined o fs e) (c ++ word o)
-    joins o m = joined-after o c fs e (shut (level o) (omega (arith, level-most o))) look m
+    joins o m = joined-after o c fs e (shut (leftLevel o) (omega (arith, left-most o))) look m
 
 -- from every state the text can be completed
 
@@ -410,7 +468,7 @@ unfolding plug fits
 plug-fits [] e f h = h
 plug-fits (left l o ∷ fs) e f h =
     plug-fits fs (join o l e) (f .3) (fits-join (floor fs) (takesTest fs) o l e (record { binds = f .1; sorted = f .2; onLeft = f .0; onRight = h }))
-plug-fits (lead s ∷ fs) e f h = plug-fits fs (rooted s e) (f .1) (both-yes (le-leb (floor fs) 4 (f .0)) h)
+plug-fits (lead s ∷ fs) e f h = plug-fits fs (rooted s e) (f .1) (both-yes (le-leb (floor fs) 5 (f .0)) h)
 plug-fits (paren ∷ fs) e f h = plug-fits fs (bracket e) f h
 plug-fits (negation ∷ fs) e f h = plug-fits fs (negate e) (f .1) (both-yes (f .0) h)
 plug-fits (test x ∷ fs) e f h = plug-fits fs (filter x e) (f .1) (both-yes (f .0) h)
@@ -438,7 +496,7 @@ after-viable (state fs want) c (f, u, look) =
 after-viable (state fs (axis a)) c (f, h, look) =
     plugged fs (wildcard a star) c (ascii "*") f h (sym (append-assoc (shown fs) (axisWord a) (ascii "*")) ∙ ap (λ (l : List ℕ). l ++ ascii "*") look)
 after-viable (state fs (have e)) c (f, h, look) =
-    plugged fs e c [] f (fits-less e (floor fs) 6 (takesTest fs) (takesTest fs) (floor-most fs) (λ p. p) h) (look ∙ sym (append-nil c))
+    plugged fs e c [] f (fits-less e (floor fs) 7 (takesTest fs) (takesTest fs) (floor-most fs) (λ p. p) h) (look ∙ sym (append-nil c))
 
 -- where it has not stopped, the text goes on to a grammatical one
 pub good-viable : (p : Place State) (c : List ℕ) → Good After c p → isDead p ≡ false → Viable c
@@ -463,7 +521,7 @@ sound s e h = go (run next (between start) s) (good s) h
     done : (fs gs : List Frame) (d x : Expr) → Closing 0 fs d gs x → shown fs ++ print d ≡ s → whole gs x ≡ accepted e → (fits 0 false e ≡ true) × (print e ≡ s)
     done fs [] d x w look p =
         let q : x ≡ e = cc in
-        (subst (λ (y : Expr). fits 0 false y ≡ true) q (w .fit), ap print (sym q) ∙ w .same ∙ look)
+        (subst (λ (y : Expr). fits 0 false y ≡ true) q (w .fit), ap print (sym q) ∙ w .looks ∙ look)
     done fs (g ∷ gs) d x w look p = never p
 
     go : (p : Place State) → Good After s p → outcomeOf p ≡ accepted e → (fits 0 false e ≡ true) × (print e ≡ s)
@@ -471,5 +529,5 @@ sound s e h = go (run next (between start) s) (good s) h
     go (between (state fs want)) g q = never q
     go (between (state fs (axis a))) g q = never q
     go (between (state fs (have d))) g q =
-        done fs (opened 0 fs) d (closed 0 fs d) (closing fs 0 6 d (g .0) (omega arith) (floor-most fs) (g .1)) (g .2) q
+        done fs (opened 0 fs) d (closed 0 fs d) (closing fs 0 7 d (g .0) (omega arith) (floor-most fs) (g .1)) (g .2) q
     go (within l) g q = never q

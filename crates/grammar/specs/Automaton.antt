@@ -1,15 +1,15 @@
 -- The reading of typed queries: what may come next after each beginning of a text. This is how a verdict and a tree are found;
 -- that they are the grammar's is proved (proofs/Theorems.antt).
 use Prim.Native.Nat.{ℕ, suc, _+_}
-use mathlib.Core.Bool.{Bool, true, false, not, _&&_, cond}
+use mathlib.Core.Bool.{Bool, true, false, not, _&&_, _||_, cond}
 use mathlib.Core.List.{List, [], _∷_, _++_}
 use lib.Dec.{leb}
 use Rattle.model.specs.Lists.{equal}
-use Rattle.grammar.specs.Grammar.{Expr, Op, Slash, ascii, axes, axisWord, variables, nameBytes, level, logical, word}
+use Rattle.grammar.specs.Grammar.{Expr, Op, Slash, ascii, axes, axisWord, variables, nameBytes, level, leftLevel, logical, makesTest, word}
 use Rattle.grammar.specs.Grammar.Slash.{one, two}
 use Rattle.grammar.specs.Grammar.Wildcard.{star, node}
-use Rattle.grammar.specs.Grammar.Op.{or, and, union, intersect, except, slash}
-use Rattle.grammar.specs.Grammar.Expr.{wildcard, named, dot, dots, variable, bracket, negate, is, filter, rooted, join}
+use Rattle.grammar.specs.Grammar.Op.{or, and, same, union, intersect, except, slash}
+use Rattle.grammar.specs.Grammar.Expr.{wildcard, named, dot, dots, variable, bracket, closure, negate, is, filter, rooted, join}
 use Rattle.grammar.specs.Online.{Choice, Place, run, reach}
 use Rattle.grammar.specs.Online.Choice.{choice}
 
@@ -47,7 +47,7 @@ takesTest (test e ∷ fs) = true
 abbrev pub floor : List Frame → ℕ
 floor [] = 0
 floor (left l o ∷ fs) = suc (level o)
-floor (lead s ∷ fs) = 5
+floor (lead s ∷ fs) = 6
 floor (paren ∷ fs) = 0
 floor (negation ∷ fs) = 0
 floor (test e ∷ fs) = 0
@@ -56,7 +56,7 @@ floor (test e ∷ fs) = 0
 unfoldable pub opened : ℕ → List Frame → List Frame
 opened n [] = []
 opened n (left l o ∷ fs) = cond (leb n (level o)) (opened n fs) (left l o ∷ fs)
-opened n (lead s ∷ fs) = cond (leb n 4) (opened n fs) (lead s ∷ fs)
+opened n (lead s ∷ fs) = cond (leb n 5) (opened n fs) (lead s ∷ fs)
 opened n (paren ∷ fs) = paren ∷ fs
 opened n (negation ∷ fs) = negation ∷ fs
 opened n (test e ∷ fs) = test e ∷ fs
@@ -65,7 +65,7 @@ opened n (test e ∷ fs) = test e ∷ fs
 unfoldable pub closed : ℕ → List Frame → Expr → Expr
 closed n [] e = e
 closed n (left l o ∷ fs) e = cond (leb n (level o)) (closed n fs (join o l e)) e
-closed n (lead s ∷ fs) e = cond (leb n 4) (closed n fs (rooted s e)) e
+closed n (lead s ∷ fs) e = cond (leb n 5) (closed n fs (rooted s e)) e
 closed n (paren ∷ fs) e = e
 closed n (negation ∷ fs) e = e
 closed n (test x ∷ fs) e = e
@@ -78,11 +78,12 @@ isPath dot = true
 isPath dots = true
 isPath (variable k) = true
 isPath (bracket e) = isPath e
+isPath (closure e) = true
 isPath (negate e) = false
 isPath (is k) = false
 isPath (filter e t) = true
 isPath (rooted s e) = true
-isPath (join o l r) = not (logical o)
+isPath (join o l r) = not (makesTest o)
 
 -- '.', behind which another '.' or ' is $k' may come
 abbrev pub isDot : Expr → Bool
@@ -92,6 +93,7 @@ isDot dot = true
 isDot dots = false
 isDot (variable k) = false
 isDot (bracket e) = false
+isDot (closure e) = false
 isDot (negate e) = false
 isDot (is k) = false
 isDot (filter e t) = false
@@ -106,6 +108,7 @@ isNamed dot = false
 isNamed dots = false
 isNamed (variable k) = false
 isNamed (bracket e) = false
+isNamed (closure e) = false
 isNamed (negate e) = false
 isNamed (is k) = false
 isNamed (filter e t) = false
@@ -120,6 +123,7 @@ axisOf dot = 0
 axisOf dots = 0
 axisOf (variable k) = 0
 axisOf (bracket e) = 0
+axisOf (closure e) = 0
 axisOf (negate e) = 0
 axisOf (is k) = 0
 axisOf (filter e t) = 0
@@ -134,6 +138,7 @@ nameOf dot = []
 nameOf dots = []
 nameOf (variable k) = []
 nameOf (bracket e) = []
+nameOf (closure e) = []
 nameOf (negate e) = []
 nameOf (is k) = []
 nameOf (filter e t) = []
@@ -152,11 +157,46 @@ isNode e = isNamed e && equal (nameOf e) (ascii "node")
 abbrev pub asNode : Expr → Expr
 asNode e = wildcard (axisOf e) node
 
+-- a bracket that holds a path, behind which '*' may come
+abbrev pub isGroup : Expr → Bool
+isGroup (wildcard a w) = false
+isGroup (named a name) = false
+isGroup dot = false
+isGroup dots = false
+isGroup (variable k) = false
+isGroup (bracket e) = isPath e
+isGroup (closure e) = false
+isGroup (negate e) = false
+isGroup (is k) = false
+isGroup (filter e t) = false
+isGroup (rooted s e) = false
+isGroup (join o l r) = false
+
+-- what it holds; what stands for that of anything else is of no account
+abbrev pub inside : Expr → Expr
+inside (wildcard a w) = dot
+inside (named a name) = dot
+inside dot = dot
+inside dots = dot
+inside (variable k) = dot
+inside (bracket e) = e
+inside (closure e) = dot
+inside (negate e) = dot
+inside (is k) = dot
+inside (filter e t) = dot
+inside (rooted s e) = dot
+inside (join o l r) = dot
+
+-- the same with '*'
+abbrev pub asClosure : Expr → Expr
+asClosure e = closure (inside e)
+
 -- '/' may come where an expression is wanted: it doubles a slash, or leads
 abbrev pub maySlash : List Frame → Bool
 maySlash [] = true
 maySlash (left l or ∷ fs) = true
 maySlash (left l and ∷ fs) = true
+maySlash (left l same ∷ fs) = true
 maySlash (left l union ∷ fs) = true
 maySlash (left l intersect ∷ fs) = true
 maySlash (left l except ∷ fs) = true
@@ -173,6 +213,7 @@ abbrev pub slashed : List Frame → List Frame
 slashed [] = lead one ∷ []
 slashed (left l or ∷ fs) = lead one ∷ left l or ∷ fs
 slashed (left l and ∷ fs) = lead one ∷ left l and ∷ fs
+slashed (left l same ∷ fs) = lead one ∷ left l same ∷ fs
 slashed (left l union ∷ fs) = lead one ∷ left l union ∷ fs
 slashed (left l intersect ∷ fs) = lead one ∷ left l intersect ∷ fs
 slashed (left l except ∷ fs) = lead one ∷ left l except ∷ fs
@@ -218,13 +259,13 @@ filtered (paren ∷ fs) e = state fs (have e)
 filtered (negation ∷ fs) e = state fs (have e)
 filtered (test x ∷ fs) e = state fs (have (filter x e))
 
--- an operator may come behind e: a logical one where a test may stand, another one behind a path
+-- an operator may come behind e: behind a path, unless it joins tests; and where a test may stand, if it makes one
 unfoldable pub mayJoin : Op → List Frame → Expr → Bool
-mayJoin o fs e = cond (logical o) (takesTest (opened (level o) fs)) (isPath e)
+mayJoin o fs e = (logical o || isPath e) && (not (makesTest o) || takesTest (opened (leftLevel o) fs))
 
 -- the state after it
 unfoldable pub joined : Op → List Frame → Expr → State
-joined o fs e = state (left (closed (level o) fs e) o ∷ opened (level o) fs) want
+joined o fs e = state (left (closed (leftLevel o) fs e) o ∷ opened (leftLevel o) fs) want
 
 -- a choice for each number of a list
 unfoldable pub each : {X : Type 0} → (ℕ → Choice X) → List ℕ → List (Choice X) → List (Choice X)
@@ -264,11 +305,13 @@ onwards fs e =
     ∷ choice (mayParen (opened 0 fs)) (ascii ")") (parenthesised (opened 0 fs) (closed 0 fs e))
     ∷ joinChoice fs e or
     ∷ joinChoice fs e and
+    ∷ joinChoice fs e same
     ∷ joinChoice fs e union
     ∷ joinChoice fs e intersect
     ∷ joinChoice fs e except
     ∷ joinChoice fs e (slash one)
     ∷ choice (isNode e) (ascii "()") (state fs (have (asNode e)))
+    ∷ choice (isGroup e) (ascii "*") (state fs (have (asClosure e)))
     ∷ []
 
 -- the same with ' is $k'

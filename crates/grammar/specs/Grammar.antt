@@ -1,15 +1,16 @@
 -- The grammar of typed queries: expressions as they are written, what each looks like, and which of them may stand where. In the
 -- words of docs/REFERENCE.md, each with the n and b for which `fits n b` has its expressions:
 --
---     Path   = Inter (" union " Inter)*                      n = 2, b = false
---     Inter  = Rooted ((" intersect " | " except ") Rooted)*     3
---     Rooted = ["/" | "//"] Run                                  4
---     Run    = Step (("/" | "//") Step)*                         5
---     Step   = Prim ("[" Test "]")*                              6
---     Prim   = axis "::" ("*" | "node()" | name) | "." | ".." | "$0" | "$1" | "$2" | "(" Path ")"
+--     Path   = Inter (" union " Inter)*                      n = 3, b = false
+--     Inter  = Rooted ((" intersect " | " except ") Rooted)*     4
+--     Rooted = ["/" | "//"] Run                                  5
+--     Run    = Step (("/" | "//") Step)*                         6
+--     Step   = Prim ("[" Test "]")*                              7
+--     Prim   = axis "::" ("*" | "node()" | name) | "." | ".." | "$0" | "$1" | "$2" | "(" Path ")" | "(" Path ")*"
 --     Test   = Conj (" or " Conj)*                           n = 0, b = true
 --     Conj   = Unit (" and " Unit)*                              1
---     Unit   = Path | "not(" Test ")" | ". is $0" | ". is $1" | ". is $2" | "(" Test that is no whole Path ")"    2
+--     Unit   = Path [" same " Path]                              2
+--            | "not(" Test ")" | ". is $0" | ". is $1" | ". is $2" | "(" Test that is no whole Path ")"
 use Prim.Native.Nat.{ℕ, zero, suc, _+_}
 use Prim.Native.Char.{code}
 use Prim.Native.String.{String, [] as end, _∷_ as _then_}
@@ -76,6 +77,7 @@ pub data Slash : Type 0 where
 pub data Op : Type 0 where
   or : Op
   and : Op
+  same : Op
   union : Op
   intersect : Op
   except : Op
@@ -95,8 +97,9 @@ pub data Expr : Type 0 where
   dot : Expr
   dots : Expr
   variable : ℕ → Expr
-  -- (e), not(e), '. is $k'
+  -- (e), (e)*, not(e), '. is $k'
   bracket : Expr → Expr
+  closure : Expr → Expr
   negate : Expr → Expr
   is : ℕ → Expr
   -- e[t]
@@ -115,6 +118,7 @@ slashWord two = ascii "//"
 abbrev pub word : Op → List ℕ
 word or = ascii " or "
 word and = ascii " and "
+word same = ascii " same "
 word union = ascii " union "
 word intersect = ascii " intersect "
 word except = ascii " except "
@@ -133,29 +137,52 @@ print dot = ascii "."
 print dots = ascii ".."
 print (variable k) = ascii "$" ++ (48 + k) ∷ []
 print (bracket e) = ascii "(" ++ (print e ++ ascii ")")
+print (closure e) = ascii "(" ++ (print e ++ ascii ")*")
 print (negate e) = ascii "not(" ++ (print e ++ ascii ")")
 print (is k) = ascii ". is $" ++ (48 + k) ∷ []
 print (filter e t) = print e ++ (ascii "[" ++ (print t ++ ascii "]"))
 print (rooted s e) = slashWord s ++ print e
 print (join o l r) = print l ++ (word o ++ print r)
 
--- how tightly an operator binds; a leading slash binds at 4, between those for sets and those between steps
+-- how tightly an operator binds; a leading slash binds at 5, between those for sets and those between steps
 abbrev pub level : Op → ℕ
 level or = 0
 level and = 1
-level union = 2
-level intersect = 3
-level except = 3
-level (slash s) = 5
+level same = 2
+level union = 3
+level intersect = 4
+level except = 4
+level (slash s) = 6
 
--- the operator joins tests to a test; the others join paths to a path
+-- how tightly its left operand binds at least: as it does itself, or tighter where it does not chain
+abbrev pub leftLevel : Op → ℕ
+leftLevel or = level or
+leftLevel and = level and
+leftLevel same = suc (level same)
+leftLevel union = level union
+leftLevel intersect = level intersect
+leftLevel except = level except
+leftLevel (slash s) = level (slash s)
+
+-- it joins tests; the others join paths
 abbrev pub logical : Op → Bool
 logical or = true
 logical and = true
+logical same = false
 logical union = false
 logical intersect = false
 logical except = false
 logical (slash s) = false
+
+-- it makes a test; the others make a path
+abbrev pub makesTest : Op → Bool
+makesTest or = true
+makesTest and = true
+makesTest same = true
+makesTest union = false
+makesTest intersect = false
+makesTest except = false
+makesTest (slash s) = false
 
 -- all are bytes of a name
 unfoldable pub allName : List ℕ → Bool
@@ -168,8 +195,9 @@ isName [] = false
 isName (b ∷ bs) = elem b nameBytes && allName bs
 
 -- e may stand where what stands there binds at n or tighter, and is a path unless b is set, which allows a test.
--- Operators of one level group leftwards: the left operand may bind as its operator does, the right one binds tighter.
--- A leading slash takes a whole run of steps. A bracket is a path if it holds one, and else a test
+-- Operators of one level group leftwards: the left operand may bind as its operator does, the right one binds tighter; for `same`
+-- both do. A leading slash takes a whole run of steps. A bracket is a path if it holds one, and else a test; with a star behind it,
+-- it holds a path
 unfoldable pub fits : ℕ → Bool → Expr → Bool
 fits n b (wildcard a w) = elem a axes
 fits n b (named a name) = elem a axes && isName name
@@ -177,11 +205,12 @@ fits n b dot = true
 fits n b dots = true
 fits n b (variable k) = elem k variables
 fits n b (bracket e) = fits 0 b e
+fits n b (closure e) = fits 0 false e
 fits n b (negate e) = b && fits 0 true e
 fits n b (is k) = b && elem k variables
-fits n b (filter e t) = fits 6 false e && fits 0 true t
-fits n b (rooted s e) = leb n 4 && fits 5 false e
-fits n b (join o l r) = leb n (level o) && ((not (logical o) || b) && (fits (level o) (logical o) l && fits (suc (level o)) (logical o) r))
+fits n b (filter e t) = fits 7 false e && fits 0 true t
+fits n b (rooted s e) = leb n 5 && fits 6 false e
+fits n b (join o l r) = leb n (level o) && ((not (makesTest o) || b) && (fits (leftLevel o) (logical o) l && fits (suc (level o)) (logical o) r))
 
 -- the text is grammatical: it is what a path looks like. That path is its reading; it has no other (proofs/Theorems.antt)
 pub record Grammatical (text : List ℕ) : Type 0 where

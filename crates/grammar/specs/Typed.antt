@@ -6,8 +6,8 @@ use Rattle.model.specs.Syntax.{Path, NodeExpr}
 use Rattle.grammar.specs.Grammar.{Expr, Wildcard, axisWord, slashWord, word, print}
 use Rattle.grammar.specs.Grammar.Slash.{one, two}
 use Rattle.grammar.specs.Grammar.Wildcard.{star, node}
-use Rattle.grammar.specs.Grammar.Op.{or, and, union, intersect, except, slash}
-use Rattle.grammar.specs.Grammar.Expr.{wildcard, named, dot, dots, variable, bracket, negate, is, filter, rooted, join}
+use Rattle.grammar.specs.Grammar.Op.{or, and, same, union, intersect, except, slash}
+use Rattle.grammar.specs.Grammar.Expr.{wildcard, named, dot, dots, variable, bracket, closure, negate, is, filter, rooted, join}
 
 -- the tag in a step of a test that is no name
 abbrev pub wildcardTag : Wildcard → ℕ
@@ -33,6 +33,7 @@ module _ (any : ℕ) where
     pathBy dots tag = Path.step 2 any
     pathBy (variable k) tag = Path.variable k
     pathBy (bracket e) tag = pathBy e tag
+    pathBy (closure e) tag = Path.closure (pathBy e tag)
     pathBy (negate e) tag = none
     pathBy (is k) tag = none
     pathBy (filter e t) tag = Path.filter (pathBy e tag) (exprBy t tag)
@@ -40,6 +41,7 @@ module _ (any : ℕ) where
     pathBy (rooted two e) tag = Path.fromRoot (belowBy e tag)
     pathBy (join or l r) tag = none
     pathBy (join and l r) tag = none
+    pathBy (join same l r) tag = none
     pathBy (join union l r) tag = Path.union (pathBy l tag) (pathBy r tag)
     pathBy (join intersect l r) tag = Path.intersect (pathBy l tag) (pathBy r tag)
     pathBy (join except l r) tag = Path.except (pathBy l tag) (pathBy r tag)
@@ -54,12 +56,14 @@ module _ (any : ℕ) where
     belowBy dots tag = Path.compose anywhereBy (Path.step 2 any)
     belowBy (variable k) tag = Path.compose anywhereBy (Path.variable k)
     belowBy (bracket e) tag = Path.compose anywhereBy (pathBy e tag)
+    belowBy (closure e) tag = Path.compose anywhereBy (Path.closure (pathBy e tag))
     belowBy (negate e) tag = none
     belowBy (is k) tag = none
     belowBy (filter e t) tag = Path.compose anywhereBy (Path.filter (pathBy e tag) (exprBy t tag))
     belowBy (rooted s e) tag = none
     belowBy (join or l r) tag = none
     belowBy (join and l r) tag = none
+    belowBy (join same l r) tag = none
     belowBy (join union l r) tag = none
     belowBy (join intersect l r) tag = none
     belowBy (join except l r) tag = none
@@ -74,6 +78,7 @@ module _ (any : ℕ) where
     exprBy dots tag = NodeExpr.exists (Path.step 2 any)
     exprBy (variable k) tag = NodeExpr.exists (Path.variable k)
     exprBy (bracket e) tag = exprBy e tag
+    exprBy (closure e) tag = NodeExpr.exists (Path.closure (pathBy e tag))
     exprBy (negate e) tag = NodeExpr.negate (exprBy e tag)
     exprBy (is k) tag = NodeExpr.is k
     exprBy (filter e t) tag = NodeExpr.exists (Path.filter (pathBy e tag) (exprBy t tag))
@@ -81,6 +86,7 @@ module _ (any : ℕ) where
     exprBy (rooted two e) tag = NodeExpr.exists (Path.fromRoot (belowBy e tag))
     exprBy (join or l r) tag = NodeExpr.either (exprBy l tag) (exprBy r tag)
     exprBy (join and l r) tag = NodeExpr.both (exprBy l tag) (exprBy r tag)
+    exprBy (join same l r) tag = NodeExpr.same (pathBy l tag) (pathBy r tag)
     exprBy (join union l r) tag = NodeExpr.exists (Path.union (pathBy l tag) (pathBy r tag))
     exprBy (join intersect l r) tag = NodeExpr.exists (Path.intersect (pathBy l tag) (pathBy r tag))
     exprBy (join except l r) tag = NodeExpr.exists (Path.except (pathBy l tag) (pathBy r tag))
@@ -119,6 +125,7 @@ namesIn p dot = []
 namesIn p dots = []
 namesIn p (variable k) = []
 namesIn p (bracket e) = namesIn (p + 1) e
+namesIn p (closure e) = namesIn (p + 1) e
 namesIn p (negate e) = namesIn (p + 4) e
 namesIn p (is k) = []
 namesIn p (filter e t) = namesIn p e ++ namesIn (p + length (print e) + 1) t

@@ -162,7 +162,7 @@ pub fn copy(line: &Line, part: usize, to: &mut table::Table) {
 }
 
 // Writes a part to the front of a buffer.
-pub fn copy_bytes(line: &Line, part: usize, to: &mut table::Set) {
+pub fn copy_bytes(line: &Line, part: usize, to: &mut [u8]) {
     let count = length(line, part);
     let mut k = 0;
     while k < count {

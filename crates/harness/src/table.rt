@@ -28,6 +28,13 @@ pub fn put(table: &mut Table, k: usize, value: usize) {
     put_at(table, std::num::wrapping_add_usize(k, 1), value);
 }
 
+// Writes a number behind the others.
+pub fn append(table: &mut Table, value: usize) {
+    let at = length(table);
+    put(table, at, value);
+    set_length(table, std::num::wrapping_add_usize(at, 1));
+}
+
 pub fn set_length(table: &mut Table, length: usize) {
     put_at(table, 0, length);
 }

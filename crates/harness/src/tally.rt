@@ -4,6 +4,11 @@ use super::table;
 // The replies by their number (0 to 36), and the sums below.
 pub type Tally = [u64; 68];
 
+// For how many parties that asked for a random shared table a closure of the query decided, and a `same`.
+pub const CLOSING: usize = 37;
+
+pub const MEETING: usize = 38;
+
 // The kinds of the entries at which random queries break the rule of quick pages: bit k for kind k.
 pub const BREAKING: usize = 39;
 
@@ -73,6 +78,9 @@ pub const HIDING: usize = 65;
 
 pub const THROUGH: usize = 66;
 
+// In how many deep queries a closure decided.
+pub const DECIDING: usize = 67;
+
 pub fn add(tally: &mut Tally, at: usize, more: u64) {
     if at < 68 {
         let sum = std::num::wrapping_add_u64(tally[at], more);
@@ -80,10 +88,10 @@ pub fn add(tally: &mut Tally, at: usize, more: u64) {
     }
 }
 
-// Number k, below 13, was met.
+// Number k, below 15, was met.
 pub fn meet(tally: &mut Tally, at: usize, k: usize) {
     if at < 68 {
-        if k < 13 {
+        if k < 15 {
             let bits = tally[at] | (1 << k);
             tally[at] = bits;
         }
@@ -217,7 +225,7 @@ pub fn expect_gaps(tally: &mut Tally, some: usize, of: usize) {
     let with = sum_at(tally, GAPS) as usize;
     let least = table::times(some, lists(tally));
     expect(tally, least <= table::times(of, with));
-    expect(tally, sum_at(tally, KINDS) == 8191);
+    expect(tally, sum_at(tally, KINDS) == 32767);
     expect(tally, sum_at(tally, AXES) == 8191);
 }
 
@@ -244,18 +252,36 @@ pub fn expect_left_out(tally: &mut Tally, some: usize, of: usize) {
     expect_share(tally, LEFT_OUT, whole, some, of);
 }
 
+// Of the parties that asked for a random shared table no fewer than some of so many did so with a query in which a closure decided.
+pub fn expect_closing(tally: &mut Tally, some: usize, of: usize) {
+    let whole = sum_at(tally, SHARED);
+    expect_share(tally, CLOSING, whole, some, of);
+}
+
+// The same of a `same`.
+pub fn expect_meeting(tally: &mut Tally, some: usize, of: usize) {
+    let whole = sum_at(tally, SHARED);
+    expect_share(tally, MEETING, whole, some, of);
+}
+
 // Of the deep queries no fewer than some of so many had some pairs and not all.
 pub fn expect_mixed(tally: &mut Tally, some: usize, of: usize) {
     let whole = sum_at(tally, DEEP);
     expect_share(tally, MIXED, whole, some, of);
 }
 
+// In no fewer than some of so many deep queries a closure decided.
+pub fn expect_deciding(tally: &mut Tally, some: usize, of: usize) {
+    let whole = sum_at(tally, DEEP);
+    expect_share(tally, DECIDING, whole, some, of);
+}
+
 // Of the lists no fewer than some of so many had gaps, and were of two variables or more and of a query that keeps the rule of
-// quick pages; and others broke it by each kind that can: 1, 3, 4, 5, 9 and 10.
+// quick pages; and others broke it by each kind that can: 1, 3, 4, 5, 9, 10, 13 and 14.
 pub fn expect_kept(tally: &mut Tally, some: usize, of: usize) {
     let whole = lists(tally);
     expect_share(tally, KEPT, whole as u64, some, of);
-    expect(tally, sum_at(tally, BREAKING) == 1594);
+    expect(tally, sum_at(tally, BREAKING) == 26170);
 }
 
 // Of the random shared tables no fewer than some of so many hide a node from the party that asks.
@@ -321,8 +347,8 @@ fn show_found(tally: &Tally, at: usize, name: &[u8]) {
     show_number(count, b"\n");
 }
 
-pub fn show_all(tally: &Tally) {
-    show_replies(tally);
+// What the results and the pages held.
+fn show_results(tally: &Tally) {
     show_found(tally, NODES, b"nodes in results: ");
     show_found(tally, PAIRS, b"pairs in tables: ");
     show_found(tally, ROWS, b"rows in pages: ");
@@ -337,6 +363,10 @@ pub fn show_all(tally: &Tally) {
         b"lists with gaps, of two variables or more, within the rule: ",
     );
     show_found(tally, EVALUATIONS, b"evaluations of quick pages: ");
+}
+
+// What the random tables and queries were like.
+fn show_random(tally: &Tally) {
     show_found(tally, BROKEN, b"damaged indexes refused: ");
     show_found(tally, UNSEEN, b"damaged indexes not refused: ");
     show_found(tally, CHANGED, b"of these with another answer: ");
@@ -346,8 +376,15 @@ pub fn show_all(tally: &Tally) {
         LEFT_OUT,
         b"of these with a star that leaves it out: ",
     );
+    show_found(
+        tally,
+        CLOSING,
+        b"random queries with a closure that decides: ",
+    );
+    show_found(tally, MEETING, b"random queries with a same that decides: ");
     show_found(tally, DEEP, b"deep queries: ");
     show_found(tally, MIXED, b"of these with some pairs and not all: ");
+    show_found(tally, DECIDING, b"of these with a closure that decides: ");
     show_found(tally, SHARED, b"parties asking for a random table: ");
     show_found(tally, HIDING, b"of these with a node hidden: ");
     show_found(
@@ -355,6 +392,12 @@ pub fn show_all(tally: &Tally) {
         THROUGH,
         b"of these with a node hidden by an ancestor alone: ",
     );
+}
+
+pub fn show_all(tally: &Tally) {
+    show_replies(tally);
+    show_results(tally);
+    show_random(tally);
     io::write_all(1, b"in all: ");
     show_number(sum_at(tally, COMPARED), b" compared, ");
     show_number(sum_at(tally, FAILED), b" failed\n");

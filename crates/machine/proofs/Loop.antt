@@ -133,9 +133,9 @@ set-above a i v (suc d) h =
     let n : d ≡ i → ⊥ = λ e. omega arith in
     rw (set-above a i v d (omega arith), getD-set-other a i d v 0 n)
 
-push-set : (a : List ℕ) (d v : ℕ) → d < length a → stackOf (set a d v) (d + cond (ltb v 13) 1 0) ≡ pushed v (stackOf a d)
+push-set : (a : List ℕ) (d v : ℕ) → d < length a → stackOf (set a d v) (d + cond (ltb v 14) 1 0) ≡ pushed v (stackOf a d)
 unfolding stackOf
-push-set a d v h = go (ltb v 13)
+push-set a d v h = go (ltb v 14)
   where
     go : (b : Bool) → stackOf (set a d v) (d + cond b 1 0) ≡ cond b (v ∷ stackOf a d) (stackOf a d)
     go true = rw (add-one d, getD-set-same a d v 0 h, set-above a d v d (omega arith))
@@ -164,7 +164,7 @@ module _ (text stack : List ℕ) (depth f at : ℕ) (w : At text stack depth f a
 
   pub at-go : (r : Turn) (k : ℕ) (m : Move) (n keep deep : ℕ) (next-stack : List ℕ) → at < length text → length text ≤ 1024
       → r ≡ turnOf f (stackOf stack depth) (drop at text) → r ≡ Go k m n
-      → keep ≡ depth - m .pops → next-stack ≡ set stack keep (m .push) → deep ≡ keep + cond (ltb (m .push) 13) 1 0
+      → keep ≡ depth - m .pops → next-stack ≡ set stack keep (m .push) → deep ≡ keep + cond (ltb (m .push) 14) 1 0
       → Went k next-stack deep (m .focus) (at + n)
   at-go r k m n keep deep next-stack h big e s kept t d =
       let g = went r k m n h e s in
@@ -172,7 +172,7 @@ module _ (text stack : List ℕ) (depth f at : ℕ) (w : At text stack depth f a
       let rm = w .room in
       let sh = w .shallow in
       let low : keep < length stack = omega arith in
-      let bit = at-most (ltb (m .push) 13) in
+      let bit = at-most (ltb (m .push) 14) in
       record {
         next = record {
           inside = fit .1;
@@ -185,7 +185,7 @@ module _ (text stack : List ℕ) (depth f at : ℕ) (w : At text stack depth f a
               ∙ ap (moved m) (w .gaps)
               ∙ ap (pushed (m .push)) (stack-drop stack depth (m .pops) ∙ ap (stackOf stack) (sym kept))
               ∙ sym (push-set stack keep (m .push) low)
-              ∙ ap (λ (l : List ℕ). stackOf l (keep + cond (ltb (m .push) 13) 1 0)) (sym t)
+              ∙ ap (λ (l : List ℕ). stackOf l (keep + cond (ltb (m .push) 14) 1 0)) (sym t)
               ∙ ap (stackOf next-stack) (sym d);
           focus = erased-focus m (gapsOf (w .here)) (g .to) (g .steps);
         };

@@ -14,15 +14,15 @@ use Rattle.words.specs.declared.Scan.{Scan}
 use Rattle.words.specs.declared.Scan.the-variants.{Word, Stop}
 use Rattle.machine.specs.declared.Move.{Move}
 use Rattle.words.specs.Words.{common, slot, greater, scanFrom, allWords, wordTable}
-use Rattle.grammar.specs.Grammar.{Expr, Op, ascii, elem, axes, axisWord, variables, nameBytes, isName, level, logical, fits}
+use Rattle.grammar.specs.Grammar.{Expr, Op, ascii, elem, axes, axisWord, variables, nameBytes, isName, level, leftLevel, logical, makesTest, fits}
 use Rattle.grammar.specs.Grammar.Slash.{one, two}
 use Rattle.grammar.specs.Grammar.Wildcard.{star}
-use Rattle.grammar.specs.Grammar.Op.{or, and, union, intersect, except, slash}
-use Rattle.grammar.specs.Grammar.Expr.{wildcard, named, dot, dots, variable, bracket, negate, is, filter, rooted, join}
+use Rattle.grammar.specs.Grammar.Op.{or, and, same, union, intersect, except, slash}
+use Rattle.grammar.specs.Grammar.Expr.{wildcard, named, dot, dots, variable, bracket, closure, negate, is, filter, rooted, join}
 use Rattle.grammar.specs.Online.{Choice, run, reach}
 use Rattle.grammar.specs.Online.Choice.{choice}
 use Rattle.grammar.specs.Online.Place.{between}
-use Rattle.grammar.specs.Automaton.{Frame, State, takesTest, opened, closed, isPath, isDot, isNamed, nameOf, isNode, maySlash, slashed, mayFilter, filtered, mayParen, parenthesised, mayJoin, joined, each, nameChoice, longer, longerChoice, behind, next}
+use Rattle.grammar.specs.Automaton.{Frame, State, takesTest, opened, closed, isPath, isDot, isNamed, nameOf, isNode, isGroup, maySlash, slashed, mayFilter, filtered, mayParen, parenthesised, mayJoin, joined, each, nameChoice, longer, longerChoice, behind, next}
 use Rattle.grammar.specs.Automaton.Frame.{left, lead, paren, negation, test}
 use Rattle.grammar.specs.Automaton.Focus.{want, axis, have}
 use Rattle.grammar.specs.Automaton.State.{state}
@@ -38,7 +38,7 @@ use Rattle.machine.proofs.Finding.{hits, most, isBetween, greater-zero,
 
 -- the codes tell what the gaps do
 
-takes-either : (b : Bool) → takes (cond b 10 9) ≡ b
+takes-either : (b : Bool) → takes (cond b 11 10) ≡ b
 takes-either true = refl
 takes-either false = refl
 
@@ -47,6 +47,7 @@ unfolding codesIn
 takes-top [] = refl
 takes-top (left l or ∷ fs) = refl
 takes-top (left l and ∷ fs) = refl
+takes-top (left l same ∷ fs) = refl
 takes-top (left l union ∷ fs) = refl
 takes-top (left l intersect ∷ fs) = refl
 takes-top (left l except ∷ fs) = refl
@@ -58,7 +59,7 @@ takes-top (paren ∷ fs) = takes-either (takesTest fs)
 takes-top (negation ∷ fs) = refl
 takes-top (test e ∷ fs) = refl
 
-slashes-either : (b : Bool) → slashes (cond b 10 9) ≡ true
+slashes-either : (b : Bool) → slashes (cond b 11 10) ≡ true
 slashes-either true = refl
 slashes-either false = refl
 
@@ -67,6 +68,7 @@ unfolding codesIn
 slashes-top [] = refl
 slashes-top (left l or ∷ fs) = refl
 slashes-top (left l and ∷ fs) = refl
+slashes-top (left l same ∷ fs) = refl
 slashes-top (left l union ∷ fs) = refl
 slashes-top (left l intersect ∷ fs) = refl
 slashes-top (left l except ∷ fs) = refl
@@ -78,7 +80,7 @@ slashes-top (paren ∷ fs) = slashes-either (takesTest fs)
 slashes-top (negation ∷ fs) = refl
 slashes-top (test e ∷ fs) = refl
 
-slash-either : (b : Bool) (ks : List ℕ) → moved (slashMove (cond b 10 9)) (cond b 10 9 ∷ ks) ≡ 7 ∷ cond b 10 9 ∷ ks
+slash-either : (b : Bool) (ks : List ℕ) → moved (slashMove (cond b 11 10)) (cond b 11 10 ∷ ks) ≡ 8 ∷ cond b 11 10 ∷ ks
 slash-either true ks = refl
 slash-either false ks = refl
 
@@ -87,6 +89,7 @@ unfolding codesIn
 slash-codes [] h = refl
 slash-codes (left l or ∷ fs) h = refl
 slash-codes (left l and ∷ fs) h = refl
+slash-codes (left l same ∷ fs) h = refl
 slash-codes (left l union ∷ fs) h = refl
 slash-codes (left l intersect ∷ fs) h = refl
 slash-codes (left l except ∷ fs) h = refl
@@ -99,18 +102,19 @@ slash-codes (negation ∷ fs) h = refl
 slash-codes (test e ∷ fs) h = refl
 
 slash-focus : (t : ℕ) → slashMove t .focus ≡ 0
-slash-focus t = go (eqb t 5) (eqb t 7)
+slash-focus t = go (eqb t 6) (eqb t 8)
   where
-    go : (a b : Bool) → cond a (mv 0 1 6) (cond b (mv 0 0 8) (mv 0 0 7)) .focus ≡ 0
+    go : (a b : Bool) → cond a (mv 0 1 7) (cond b (mv 0 0 9) (mv 0 0 8)) .focus ≡ 0
     go true b = refl
     go false true = refl
     go false false = refl
 
-filter-top : (fs : List Frame) → eqb (top (codes fs)) 12 ≡ mayFilter fs
+filter-top : (fs : List Frame) → eqb (top (codes fs)) 13 ≡ mayFilter fs
 unfolding codesIn
 filter-top [] = refl
 filter-top (left l or ∷ fs) = refl
 filter-top (left l and ∷ fs) = refl
+filter-top (left l same ∷ fs) = refl
 filter-top (left l union ∷ fs) = refl
 filter-top (left l intersect ∷ fs) = refl
 filter-top (left l except ∷ fs) = refl
@@ -120,17 +124,18 @@ filter-top (lead one ∷ fs) = refl
 filter-top (lead two ∷ fs) = refl
 filter-top (paren ∷ fs) = go (takesTest fs)
   where
-    go : (b : Bool) → eqb (cond b 10 9) 12 ≡ false
+    go : (b : Bool) → eqb (cond b 11 10) 13 ≡ false
     go true = refl
     go false = refl
 filter-top (negation ∷ fs) = refl
 filter-top (test e ∷ fs) = refl
 
-paren-top : (fs : List Frame) → (ltb 8 (top (codes fs)) && ltb (top (codes fs)) 12) ≡ mayParen fs
+paren-top : (fs : List Frame) → (ltb 9 (top (codes fs)) && ltb (top (codes fs)) 13) ≡ mayParen fs
 unfolding codesIn
 paren-top [] = refl
 paren-top (left l or ∷ fs) = refl
 paren-top (left l and ∷ fs) = refl
+paren-top (left l same ∷ fs) = refl
 paren-top (left l union ∷ fs) = refl
 paren-top (left l intersect ∷ fs) = refl
 paren-top (left l except ∷ fs) = refl
@@ -140,7 +145,7 @@ paren-top (lead one ∷ fs) = refl
 paren-top (lead two ∷ fs) = refl
 paren-top (paren ∷ fs) = go (takesTest fs)
   where
-    go : (b : Bool) → (ltb 8 (cond b 10 9) && ltb (cond b 10 9) 12) ≡ true
+    go : (b : Bool) → (ltb 9 (cond b 11 10) && ltb (cond b 11 10) 13) ≡ true
     go true = refl
     go false = refl
 paren-top (negation ∷ fs) = refl
@@ -151,22 +156,24 @@ paren-top (test e ∷ fs) = refl
 pub binds-op : (n : ℕ) (o : Op) → binds n (opCode o) ≡ leb n (level o)
 binds-op n or = refl
 binds-op n and = refl
+binds-op n same = refl
 binds-op n union = refl
 binds-op n intersect = refl
 binds-op n except = refl
 binds-op n (slash one) = refl
 binds-op n (slash two) = refl
 
-pub sort-op : (o : Op) → not (ltb (opCode o) 2) ≡ not (logical o)
+pub sort-op : (o : Op) → not (ltb (opCode o) 3) ≡ not (makesTest o)
 sort-op or = refl
 sort-op and = refl
+sort-op same = refl
 sort-op union = refl
 sort-op intersect = refl
 sort-op except = refl
 sort-op (slash one) = refl
 sort-op (slash two) = refl
 
-pub binds-either : (n : ℕ) (b : Bool) → binds n (cond b 10 9) ≡ false
+pub binds-either : (n : ℕ) (b : Bool) → binds n (cond b 11 10) ≡ false
 binds-either n true = refl
 binds-either n false = refl
 
@@ -174,38 +181,38 @@ binds-either n false = refl
 popped : (t : Bool) (n k : ℕ) (ks : List ℕ) (g : Bool) (fs gs : List Frame) → binds n k ≡ t → (t ≡ false → codesIn g gs ≡ k ∷ ks) → codesIn g (opened n fs) ≡ drop (pops n ks) ks
     → codesIn g (cond t (opened n fs) gs) ≡ drop (pops n (k ∷ ks)) (k ∷ ks)
 unfolding pops
-popped true n k ks g fs gs e same ih = rw e ih
-popped false n k ks g fs gs e same ih = rw e (same refl)
+popped true n k ks g fs gs e kept ih = rw e ih
+popped false n k ks g fs gs e kept ih = rw e (kept refl)
 
 -- the gaps of steps close before a slash, and then a leading '//' stands under a step; the others close with it
-pub opened-codes : (fs : List Frame) (n : ℕ) (g h : Bool) → leb n 5 ≡ true → (leb n 4 || g) ≡ true → codesIn g (opened n fs) ≡ drop (pops n (codesIn h fs)) (codesIn h fs)
+pub opened-codes : (fs : List Frame) (n : ℕ) (g h : Bool) → leb n 6 ≡ true → (leb n 5 || g) ≡ true → codesIn g (opened n fs) ≡ drop (pops n (codesIn h fs)) (codesIn h fs)
 unfolding codesIn opened
 opened-codes [] n g h l m = unfold pops in refl
 opened-codes (left x o ∷ fs) n g h l m =
     popped (leb n (level o)) n (opCode o) (codesIn (isSlash o) fs) g fs (left x o ∷ fs) (binds-op n o) (λ _. refl) (opened-codes fs n g (isSlash o) l m)
-opened-codes (lead one ∷ fs) n g h l m = popped (leb n 4) n 7 (codesIn false fs) g fs (lead one ∷ fs) refl (λ _. refl) (opened-codes fs n g false l m)
-opened-codes (lead two ∷ fs) n g h l m = go h (popped (leb n 4) n 7 (codesIn false fs) g fs (lead two ∷ fs) refl single (opened-codes fs n g false l m))
+opened-codes (lead one ∷ fs) n g h l m = popped (leb n 5) n 8 (codesIn false fs) g fs (lead one ∷ fs) refl (λ _. refl) (opened-codes fs n g false l m)
+opened-codes (lead two ∷ fs) n g h l m = go h (popped (leb n 5) n 8 (codesIn false fs) g fs (lead two ∷ fs) refl single (opened-codes fs n g false l m))
   where
-    -- where the gap 7 stays, the flag is set
-    single : leb n 4 ≡ false → codesIn g (lead two ∷ fs) ≡ 7 ∷ codesIn false fs
+    -- where the gap 8 stays, the flag is set
+    single : leb n 5 ≡ false → codesIn g (lead two ∷ fs) ≡ 8 ∷ codesIn false fs
     single e = let z : g ≡ true = ap (λ (b : Bool). b || g) (sym e) ∙ m in rw z
 
-    go : (h : Bool) → codesIn g (opened n (lead two ∷ fs)) ≡ drop (pops n (7 ∷ codesIn false fs)) (7 ∷ codesIn false fs)
+    go : (h : Bool) → codesIn g (opened n (lead two ∷ fs)) ≡ drop (pops n (8 ∷ codesIn false fs)) (8 ∷ codesIn false fs)
         → codesIn g (opened n (lead two ∷ fs)) ≡ drop (pops n (codesIn h (lead two ∷ fs))) (codesIn h (lead two ∷ fs))
     go true once = once
     go false once = unfold pops in rw l once
-opened-codes (paren ∷ fs) n g h l m = popped false n (cond (takesTest fs) 10 9) (codesIn false fs) g fs (paren ∷ fs) (binds-either n (takesTest fs)) (λ _. refl) (opened-codes fs n g false l m)
-opened-codes (negation ∷ fs) n g h l m = popped false n 11 (codesIn false fs) g fs (negation ∷ fs) refl (λ _. refl) (opened-codes fs n g false l m)
-opened-codes (test e ∷ fs) n g h l m = popped false n 12 (codesIn false fs) g fs (test e ∷ fs) refl (λ _. refl) (opened-codes fs n g false l m)
+opened-codes (paren ∷ fs) n g h l m = popped false n (cond (takesTest fs) 11 10) (codesIn false fs) g fs (paren ∷ fs) (binds-either n (takesTest fs)) (λ _. refl) (opened-codes fs n g false l m)
+opened-codes (negation ∷ fs) n g h l m = popped false n 12 (codesIn false fs) g fs (negation ∷ fs) refl (λ _. refl) (opened-codes fs n g false l m)
+opened-codes (test e ∷ fs) n g h l m = popped false n 13 (codesIn false fs) g fs (test e ∷ fs) refl (λ _. refl) (opened-codes fs n g false l m)
 
-pub closed-sort : (fs : List Frame) (h : Bool) (n : ℕ) (e : Expr) → leb n 5 ≡ true → leb n 4 ≡ true → isPath (closed n fs e) ≡ sort n (codesIn h fs) (isPath e)
+pub closed-sort : (fs : List Frame) (h : Bool) (n : ℕ) (e : Expr) → leb n 6 ≡ true → leb n 5 ≡ true → isPath (closed n fs e) ≡ sort n (codesIn h fs) (isPath e)
 unfolding codesIn closed sort
 closed-sort [] h n e l m = refl
 closed-sort (left x o ∷ fs) h n e l m =
     go (leb n (level o)) (binds n (opCode o)) (binds-op n o) (closed-sort fs (isSlash o) n (join o x e) l m ∙ unfold isPath in ap (sort n (codesIn (isSlash o) fs)) (sym (sort-op o)))
   where
-    go : (t u : Bool) → u ≡ t → isPath (closed n fs (join o x e)) ≡ sort n (codesIn (isSlash o) fs) (not (ltb (opCode o) 2))
-        → isPath (cond t (closed n fs (join o x e)) e) ≡ cond u (sort n (codesIn (isSlash o) fs) (not (ltb (opCode o) 2))) (isPath e)
+    go : (t u : Bool) → u ≡ t → isPath (closed n fs (join o x e)) ≡ sort n (codesIn (isSlash o) fs) (not (ltb (opCode o) 3))
+        → isPath (cond t (closed n fs (join o x e)) e) ≡ cond u (sort n (codesIn (isSlash o) fs) (not (ltb (opCode o) 3))) (isPath e)
     go true true p ih = ih
     go true false p ih = no-yes refl p
     go false true p ih = no-yes p refl
@@ -222,57 +229,62 @@ closed-sort (test x ∷ fs) h n e l m = refl
 
 -- the focus tells what stands in the innermost gap
 
-three-two : (b : Bool) → (eqb (cond b 3 2) 4 ≡ false) × (ltb 2 (cond b 3 2) ≡ b)
-three-two true = (refl, refl)
-three-two false = (refl, refl)
-
-pub focus-named : (e : Expr) → ltb 4 (focusCode (have e)) ≡ isNamed e
+pub focus-named : (e : Expr) → ltb 5 (focusCode (have e)) ≡ isNamed e
 unfolding focusCode
-focus-named e = go (isNamed e) (isDot e) (isPath e)
+focus-named e = go (isNamed e) (isDot e) (isGroup e) (isPath e)
   where
-    go : (n d p : Bool) → ltb 4 (cond n (nameFocus (nameOf e)) (cond d 4 (cond p 3 2))) ≡ n
-    go true d p = lt-ltb 4 (nameFocus (nameOf e)) (name-high (nameOf e))
-    go false true p = refl
-    go false false true = refl
-    go false false false = refl
+    go : (n d g p : Bool) → ltb 5 (cond n (nameFocus (nameOf e)) (cond d 5 (cond g 4 (cond p 3 2)))) ≡ n
+    go true d g p = lt-ltb 5 (nameFocus (nameOf e)) (name-high (nameOf e))
+    go false true g p = refl
+    go false false true p = refl
+    go false false false true = refl
+    go false false false false = refl
 
-pub focus-node : (e : Expr) → eqb (focusCode (have e)) 9 ≡ isNode e
+pub focus-node : (e : Expr) → eqb (focusCode (have e)) 10 ≡ isNode e
 unfolding focusCode
-focus-node e = go (isNamed e) (isDot e) (isPath e)
+focus-node e = go (isNamed e) (isDot e) (isGroup e) (isPath e)
   where
-    go : (n d p : Bool) → eqb (cond n (nameFocus (nameOf e)) (cond d 4 (cond p 3 2))) 9 ≡ (n && equal (nameOf e) (ascii "node"))
-    go true d p = name-node (nameOf e)
-    go false true p = refl
-    go false false true = refl
-    go false false false = refl
+    go : (n d g p : Bool) → eqb (cond n (nameFocus (nameOf e)) (cond d 5 (cond g 4 (cond p 3 2)))) 10 ≡ (n && equal (nameOf e) (ascii "node"))
+    go true d g p = name-node (nameOf e)
+    go false true g p = refl
+    go false false true p = refl
+    go false false false true = refl
+    go false false false false = refl
 
-pub focus-dot : (e : Expr) → eqb (focusCode (have e)) 4 ≡ isDot e
+bracket-code : (b : Bool) → (eqb (cond b 4 (cond b 3 2)) 5 ≡ false) × (eqb (cond b 4 (cond b 3 2)) 4 ≡ b) × (ltb 2 (cond b 4 (cond b 3 2)) ≡ b)
+bracket-code true = (refl, refl, refl)
+bracket-code false = (refl, refl, refl)
+
+join-code : (b : Bool) → (eqb (cond b 3 2) 5 ≡ false) × (eqb (cond b 3 2) 4 ≡ false) × (ltb 2 (cond b 3 2) ≡ b)
+join-code true = (refl, refl, refl)
+join-code false = (refl, refl, refl)
+
+-- whether it is '.', a bracket that holds a path, or any path
+focus-tells : (e : Expr) → (eqb (focusCode (have e)) 5 ≡ isDot e) × (eqb (focusCode (have e)) 4 ≡ isGroup e) × (ltb 2 (focusCode (have e)) ≡ isPath e)
 unfolding focusCode isPath
-focus-dot (wildcard a w) = refl
-focus-dot (named a name) = let h = name-high name in ne-eqb (nameFocus name) 4 (λ q. omega arith)
-focus-dot dot = refl
-focus-dot dots = refl
-focus-dot (variable k) = refl
-focus-dot (bracket e) = three-two (isPath e) .0
-focus-dot (negate e) = refl
-focus-dot (is k) = refl
-focus-dot (filter e t) = refl
-focus-dot (rooted s e) = refl
-focus-dot (join o l r) = three-two (not (logical o)) .0
+focus-tells (wildcard a w) = (refl, refl, refl)
+focus-tells (named a name) =
+    let h = name-high name in
+    (ne-eqb (nameFocus name) 5 (λ q. omega arith), ne-eqb (nameFocus name) 4 (λ q. omega arith), lt-ltb 2 (nameFocus name) (omega arith))
+focus-tells dot = (refl, refl, refl)
+focus-tells dots = (refl, refl, refl)
+focus-tells (variable k) = (refl, refl, refl)
+focus-tells (bracket e) = bracket-code (isPath e)
+focus-tells (closure e) = (refl, refl, refl)
+focus-tells (negate e) = (refl, refl, refl)
+focus-tells (is k) = (refl, refl, refl)
+focus-tells (filter e t) = (refl, refl, refl)
+focus-tells (rooted s e) = (refl, refl, refl)
+focus-tells (join o l r) = join-code (not (makesTest o))
+
+pub focus-dot : (e : Expr) → eqb (focusCode (have e)) 5 ≡ isDot e
+focus-dot e = focus-tells e .0
+
+focus-group : (e : Expr) → eqb (focusCode (have e)) 4 ≡ isGroup e
+focus-group e = focus-tells e .1
 
 pub focus-path : (e : Expr) → ltb 2 (focusCode (have e)) ≡ isPath e
-unfolding focusCode isPath
-focus-path (wildcard a w) = refl
-focus-path (named a name) = let h = name-high name in lt-ltb 2 (nameFocus name) (omega arith)
-focus-path dot = refl
-focus-path dots = refl
-focus-path (variable k) = refl
-focus-path (bracket e) = three-two (isPath e) .1
-focus-path (negate e) = refl
-focus-path (is k) = refl
-focus-path (filter e t) = refl
-focus-path (rooted s e) = refl
-focus-path (join o l r) = three-two (not (logical o)) .1
+focus-path e = focus-tells e .2
 
 -- a search in a table of words that are those of the choices
 
@@ -412,15 +424,15 @@ rows {words = words} {may = may} {move = move} {ks = ks} {k = k} {l = l} m v w x
 matches-want : (fs : List Frame) → Matches wordTable (wantMay (top (codes fs))) (wantMove (top (codes fs))) (codes fs) 0 (next (state fs want))
 unfolding next axes variables axisWord wordTable allWords wantMay wantMove slot focusCode codesIn isPath
 matches-want fs =
-    rows true (mv 1 0 13) axisWord (λ a. state fs (axis a)) axes refl refl refl (λ _. (refl, refl))
-    (rows true (mv 3 0 13) (λ k. ascii "$" ++ (48 + k) ∷ []) (λ k. state fs (have (variable k))) variables refl refl refl (λ _. (refl, refl))
+    rows true (mv 1 0 14) axisWord (λ a. state fs (axis a)) axes refl refl refl (λ _. (refl, refl))
+    (rows true (mv 3 0 14) (λ k. ascii "$" ++ (48 + k) ∷ []) (λ k. state fs (have (variable k))) variables refl refl refl (λ _. (refl, refl))
     (row refl refl (λ _. (refl, refl))
-    (row refl refl (λ _. (ap (λ (b : Bool). cond b 10 9 ∷ codes fs) (sym (takes-top fs)) ∙ either (takes (top (codes fs))), refl))
+    (row refl refl (λ _. (ap (λ (b : Bool). cond b 11 10 ∷ codes fs) (sym (takes-top fs)) ∙ either (takes (top (codes fs))), refl))
     (row (takes-top fs) refl (λ _. (refl, refl))
     (row (slashes-top fs) refl (λ h. (slash-codes fs h, sym (slash-focus (top (codes fs)))))
     none)))))
   where
-    either : (b : Bool) → cond b 10 9 ∷ codes fs ≡ pushed (cond b 10 9) (codes fs)
+    either : (b : Bool) → cond b 11 10 ∷ codes fs ≡ pushed (cond b 11 10) (codes fs)
     either true = refl
     either false = refl
 
@@ -430,74 +442,83 @@ drop-more zero (k ∷ ks) l a h = cc
 drop-more (suc p) [] l a h = let z : _≡_ {A = ℕ} 0 1 = cc in absurd (omega arith)
 drop-more (suc p) (k ∷ ks) l a h = drop-more p ks l a h
 
-filtered-erases : (gs : List Frame) (d : Expr) (ks : List ℕ) (p : ℕ) → codes gs ≡ drop p ks → mayFilter gs ≡ true → Erases (mv 3 (suc p) 13) ks (filtered gs d)
+filtered-erases : (gs : List Frame) (d : Expr) (ks : List ℕ) (p : ℕ) → codes gs ≡ drop p ks → mayFilter gs ≡ true → Erases (mv 3 (suc p) 14) ks (filtered gs d)
 unfolding codesIn focusCode isPath
 filtered-erases [] d ks p h m = no-yes refl m
 filtered-erases (left l o ∷ fs) d ks p h m = no-yes refl m
 filtered-erases (lead s ∷ fs) d ks p h m = no-yes refl m
 filtered-erases (paren ∷ fs) d ks p h m = no-yes refl m
 filtered-erases (negation ∷ fs) d ks p h m = no-yes refl m
-filtered-erases (test x ∷ fs) d ks p h m = (drop-more p ks (codes fs) 12 h, refl)
+filtered-erases (test x ∷ fs) d ks p h m = (drop-more p ks (codes fs) 13 h, refl)
 
 paren-erases : (gs : List Frame) (d : Expr) (ks : List ℕ) (p : ℕ) (b : Bool) → codes gs ≡ drop p ks → isPath d ≡ b → mayParen gs ≡ true
-    → Erases (mv (cond (eqb (top (codes gs)) 11) 2 (cond b 3 2)) (suc p) 13) ks (parenthesised gs d)
+    → Erases (mv (cond (eqb (top (codes gs)) 12) 2 (cond b 4 2)) (suc p) 14) ks (parenthesised gs d)
 unfolding codesIn focusCode isPath
 paren-erases [] d ks p b h e m = no-yes refl m
 paren-erases (left l o ∷ fs) d ks p b h e m = no-yes refl m
 paren-erases (lead s ∷ fs) d ks p b h e m = no-yes refl m
 paren-erases (paren ∷ fs) d ks p b h e m =
-    (drop-more p ks (codes fs) (cond (takesTest fs) 10 9) h, ap (λ (t : Bool). cond t 3 2) e ∙ go (takesTest fs))
+    (drop-more p ks (codes fs) (cond (takesTest fs) 11 10) h, ap (λ (t : Bool). cond t 4 (cond t 3 2)) e ∙ go b (takesTest fs))
   where
-    go : (t : Bool) → _≡_ {A = ℕ} (cond b 3 2) (cond (eqb (cond t 10 9) 11) 2 (cond b 3 2))
-    go true = refl
-    go false = refl
-paren-erases (negation ∷ fs) d ks p b h e m = (drop-more p ks (codes fs) 11 h, refl)
+    go : (b t : Bool) → _≡_ {A = ℕ} (cond b 4 (cond b 3 2)) (cond (eqb (cond t 11 10) 12) 2 (cond b 4 2))
+    go true true = refl
+    go true false = refl
+    go false true = refl
+    go false false = refl
+paren-erases (negation ∷ fs) d ks p b h e m = (drop-more p ks (codes fs) 12 h, refl)
 paren-erases (test x ∷ fs) d ks p b h e m = no-yes refl m
 
-below-thirteen : (o : Op) (ks : List ℕ) → opCode o ∷ ks ≡ pushed (opCode o) ks
-below-thirteen or ks = refl
-below-thirteen and ks = refl
-below-thirteen union ks = refl
-below-thirteen intersect ks = refl
-below-thirteen except ks = refl
-below-thirteen (slash one) ks = refl
-below-thirteen (slash two) ks = refl
+below-none : (o : Op) (ks : List ℕ) → opCode o ∷ ks ≡ pushed (opCode o) ks
+below-none or ks = refl
+below-none and ks = refl
+below-none same ks = refl
+below-none union ks = refl
+below-none intersect ks = refl
+below-none except ks = refl
+below-none (slash one) ks = refl
+below-none (slash two) ks = refl
 
-join-erases : (o : Op) (fs : List Frame) (e : Expr) → Erases (mv 0 (pops (level o) (codes fs)) (opCode o)) (codes fs) (joined o fs e)
+join-erases : (o : Op) (fs : List Frame) (e : Expr) → Erases (mv 0 (pops (leftLevel o) (codes fs)) (opCode o)) (codes fs) (joined o fs e)
 unfolding joined codesIn focusCode
 join-erases o fs e =
-    (ap (λ (l : List ℕ). opCode o ∷ l) (opened-codes fs (level o) (isSlash o) false (low o) (flag o)) ∙ below-thirteen o (drop (pops (level o) (codes fs)) (codes fs)), refl)
+    (ap (λ (l : List ℕ). opCode o ∷ l) (opened-codes fs (leftLevel o) (isSlash o) false (low o) (flag o)) ∙ below-none o (drop (pops (leftLevel o) (codes fs)) (codes fs)), refl)
   where
-    low : (o : Op) → leb (level o) 5 ≡ true
+    low : (o : Op) → leb (leftLevel o) 6 ≡ true
     low or = refl
     low and = refl
+    low same = refl
     low union = refl
     low intersect = refl
     low except = refl
     low (slash s) = refl
 
-    flag : (o : Op) → (leb (level o) 4 || isSlash o) ≡ true
+    flag : (o : Op) → (leb (leftLevel o) 5 || isSlash o) ≡ true
     flag or = refl
     flag and = refl
+    flag same = refl
     flag union = refl
     flag intersect = refl
     flag except = refl
     flag (slash s) = refl
 
+and-true : (b : Bool) → b ≡ (b && true)
+and-true true = refl
+and-true false = refl
+
 module _ (fs : List Frame) (e : Expr) where
   abbrev focus : ℕ
   focus = focusCode (have e)
 
-  is-may : (eqb focus 4 && takes (top (codes fs))) ≡ (isDot e && takesTest fs)
+  is-may : (eqb focus 5 && takes (top (codes fs))) ≡ (isDot e && takesTest fs)
   is-may = rw (focus-dot e, takes-top fs)
 
-  inner : (n : ℕ) → leb n 5 ≡ true → leb n 4 ≡ true → top (drop (pops n (codes fs)) (codes fs)) ≡ top (codes (opened n fs))
+  inner : (n : ℕ) → leb n 6 ≡ true → leb n 5 ≡ true → top (drop (pops n (codes fs)) (codes fs)) ≡ top (codes (opened n fs))
   inner n l m = ap top (sym (opened-codes fs n false false l (rw m)))
 
-  filter-may : eqb (top (drop (pops 0 (codes fs)) (codes fs))) 12 ≡ mayFilter (opened 0 fs)
+  filter-may : eqb (top (drop (pops 0 (codes fs)) (codes fs))) 13 ≡ mayFilter (opened 0 fs)
   filter-may = rw (inner 0 refl refl) (filter-top (opened 0 fs))
 
-  paren-may : (ltb 8 (top (drop (pops 0 (codes fs)) (codes fs))) && ltb (top (drop (pops 0 (codes fs)) (codes fs))) 12) ≡ mayParen (opened 0 fs)
+  paren-may : (ltb 9 (top (drop (pops 0 (codes fs)) (codes fs))) && ltb (top (drop (pops 0 (codes fs)) (codes fs))) 13) ≡ mayParen (opened 0 fs)
   paren-may = rw (inner 0 refl refl) (paren-top (opened 0 fs))
 
   or-may : takes (top (drop (pops 0 (codes fs)) (codes fs))) ≡ mayJoin or fs e
@@ -508,35 +529,41 @@ module _ (fs : List Frame) (e : Expr) where
   unfolding mayJoin
   and-may = rw (inner 1 refl refl) (takes-top (opened 1 fs))
 
-  plain-may : (o : Op) → logical o ≡ false → ltb 2 focus ≡ mayJoin o fs e
+  same-may : (ltb 2 focus && takes (top (drop (pops 3 (codes fs)) (codes fs)))) ≡ mayJoin same fs e
   unfolding mayJoin
-  plain-may o h = rw h (focus-path e)
+  same-may = rw (focus-path e, inner 3 refl refl, takes-top (opened 3 fs))
+
+  plain-may : (o : Op) → logical o ≡ false → makesTest o ≡ false → ltb 2 focus ≡ mayJoin o fs e
+  unfolding mayJoin
+  plain-may o h g = rw (h, g) (focus-path e ∙ and-true (isPath e))
 
   paren-move : mayParen (opened 0 fs) ≡ true
-      → Erases (mv (cond (eqb (top (drop (pops 0 (codes fs)) (codes fs))) 11) 2 (cond (sort 0 (codes fs) (ltb 2 focus)) 3 2)) (suc (pops 0 (codes fs))) 13) (codes fs) (parenthesised (opened 0 fs) (closed 0 fs e))
+      → Erases (mv (cond (eqb (top (drop (pops 0 (codes fs)) (codes fs))) 12) 2 (cond (sort 0 (codes fs) (ltb 2 focus)) 4 2)) (suc (pops 0 (codes fs))) 14) (codes fs) (parenthesised (opened 0 fs) (closed 0 fs e))
   paren-move m =
-      subst (λ (b : Bool). Erases (mv (cond (eqb (top (drop (pops 0 (codes fs)) (codes fs))) 11) 2 (cond b 3 2)) (suc (pops 0 (codes fs))) 13) (codes fs) (parenthesised (opened 0 fs) (closed 0 fs e)))
+      subst (λ (b : Bool). Erases (mv (cond (eqb (top (drop (pops 0 (codes fs)) (codes fs))) 12) 2 (cond b 4 2)) (suc (pops 0 (codes fs))) 14) (codes fs) (parenthesised (opened 0 fs) (closed 0 fs e)))
       (closed-sort fs false 0 e refl refl ∙ ap (sort 0 (codes fs)) (sym (focus-path e)))
-      (subst (λ (t : ℕ). Erases (mv (cond (eqb t 11) 2 (cond (isPath (closed 0 fs e)) 3 2)) (suc (pops 0 (codes fs))) 13) (codes fs) (parenthesised (opened 0 fs) (closed 0 fs e)))
+      (subst (λ (t : ℕ). Erases (mv (cond (eqb t 12) 2 (cond (isPath (closed 0 fs e)) 4 2)) (suc (pops 0 (codes fs))) 14) (codes fs) (parenthesised (opened 0 fs) (closed 0 fs e)))
       (sym (inner 0 refl refl))
       (paren-erases (opened 0 fs) (closed 0 fs e) (codes fs) (pops 0 (codes fs)) (isPath (closed 0 fs e)) (opened-codes fs 0 false false refl refl) refl m))
 
   matches-behind : Matches wordTable (haveMay focus (codes fs)) (haveMove focus (codes fs)) (codes fs) 20 (behind fs e)
   unfolding variables axes axisWord wordTable allWords haveMay haveMove slot focusCode codesIn isPath
   matches-behind =
-      rows (isDot e && takesTest fs) (mv 2 0 13) (λ k. ascii " is $" ++ (48 + k) ∷ []) (λ k. state fs (have (is k))) variables (ap (λ (b : Bool). b ∷ b ∷ b ∷ []) is-may) refl refl (λ _. (refl, refl))
+      rows (isDot e && takesTest fs) (mv 2 0 14) (λ k. ascii " is $" ++ (48 + k) ∷ []) (λ k. state fs (have (is k))) variables (ap (λ (b : Bool). b ∷ b ∷ b ∷ []) is-may) refl refl (λ _. (refl, refl))
       (row (focus-dot e) refl (λ _. (refl, refl))
       (row (focus-path e) refl (λ _. (refl, refl))
       (row filter-may refl (filtered-erases (opened 0 fs) (closed 0 fs e) (codes fs) (pops 0 (codes fs)) (opened-codes fs 0 false false refl refl))
       (row paren-may refl paren-move
       (row or-may refl (λ _. join-erases or fs e)
       (row and-may refl (λ _. join-erases and fs e)
-      (row (plain-may union refl) refl (λ _. join-erases union fs e)
-      (row (plain-may intersect refl) refl (λ _. join-erases intersect fs e)
-      (row (plain-may except refl) refl (λ _. join-erases except fs e)
-      (row (plain-may (slash one) refl) refl (λ _. join-erases (slash one) fs e)
+      (row same-may refl (λ _. join-erases same fs e)
+      (row (plain-may union refl refl) refl (λ _. join-erases union fs e)
+      (row (plain-may intersect refl refl) refl (λ _. join-erases intersect fs e)
+      (row (plain-may except refl refl) refl (λ _. join-erases except fs e)
+      (row (plain-may (slash one) refl refl) refl (λ _. join-erases (slash one) fs e)
       (row (focus-node e) refl (λ _. (refl, refl))
-      none)))))))))))
+      (row (focus-group e) refl (λ _. (refl, refl))
+      none)))))))))))))
 
 -- the turns of the machine
 
@@ -612,22 +639,22 @@ each-miss m x (k ∷ ks) l b t h =
     go true true u h ih = no-yes h refl
     go true false u h ih = let w = ih h in (w .0, greater-zero (most (rest true) (b ∷ t)) ∙ w .1)
 
-named-focus : (e : Expr) (p : Bool) (b : ℕ) → fits 6 p e ≡ true → isNamed e ≡ true → focusCode (have (longer e b)) ≡ letterFocus (focusCode (have e)) b
+named-focus : (e : Expr) (p : Bool) (b : ℕ) → fits 7 p e ≡ true → isNamed e ≡ true → focusCode (have (longer e b)) ≡ letterFocus (focusCode (have e)) b
 unfolding focusCode fits
 named-focus e p b h n =
-    by-name (λ (x : Expr). fits 6 p x ≡ true → focusCode (have (longer x b)) ≡ letterFocus (focusCode (have x)) b)
+    by-name (λ (x : Expr). fits 7 p x ≡ true → focusCode (have (longer x b)) ≡ letterFocus (focusCode (have x)) b)
     (λ a name f. name-more name b (yes-right (elem a axes) (isName name) f))
     e n h
 
 module _ (fs : List Frame) (e : Expr) (b : ℕ) (t : List ℕ) where
   abbrev scanned : Scan
-  scanned = scanFrom wordTable (haveMay (focusCode (have e)) (codes fs)) (b ∷ t) 20 14 0
+  scanned = scanFrom wordTable (haveMay (focusCode (have e)) (codes fs)) (b ∷ t) 20 16 0
 
-  pub name-goes : fits 6 (takesTest fs) e ≡ true → isNamed e ≡ true → elem b nameBytes ≡ true
-      → Goes (state fs (have e)) (b ∷ t) 34 (mv (letterFocus (focusCode (have e)) b) 0 13) 1
+  pub name-goes : fits 7 (takesTest fs) e ≡ true → isNamed e ≡ true → elem b nameBytes ≡ true
+      → Goes (state fs (have e)) (b ∷ t) 36 (mv (letterFocus (focusCode (have e)) b) 0 14) 1
   unfolding next
   name-goes f n h =
-      goes (state fs (have e)) (state fs (have (longer e b))) (b ∷ t) (b ∷ []) 34 (mv (letterFocus (focusCode (have e)) b) 0 13) 1 (inl (refl, n, b, h, refl))
+      goes (state fs (have e)) (state fs (have (longer e b))) (b ∷ t) (b ∷ []) 36 (mv (letterFocus (focusCode (have e)) b) 0 14) 1 (inl (refl, n, b, h, refl))
       (each-at (longerChoice fs e) nameBytes (behind fs e) (b ∷ []) (state fs (have (longer e b))) b h (inl (n, refl, refl)))
       refl
       refl
@@ -648,19 +675,19 @@ module _ (fs : List Frame) (e : Expr) (b : ℕ) (t : List ℕ) where
       halts (state fs (have e)) b t p (m .0 ∙ w .0) (w .1 ∙ greater-zero (most (behind fs e) (b ∷ t)) ∙ sym (m .1))
 
 module _ (fs : List Frame) (a b : ℕ) (t : List ℕ) where
-  pub first-goes : elem b nameBytes ≡ true → Goes (state fs (axis a)) (b ∷ t) 34 (mv (letterFocus 1 b) 0 13) 1
+  pub first-goes : elem b nameBytes ≡ true → Goes (state fs (axis a)) (b ∷ t) 36 (mv (letterFocus 1 b) 0 14) 1
   unfolding next focusCode nameFocus lettersFocus
   first-goes h =
-      goes (state fs (axis a)) (state fs (have (named a (b ∷ [])))) (b ∷ t) (b ∷ []) 34 (mv (letterFocus 1 b) 0 13) 1 (inl (refl, b, h, refl))
+      goes (state fs (axis a)) (state fs (have (named a (b ∷ [])))) (b ∷ t) (b ∷ []) 36 (mv (letterFocus 1 b) 0 14) 1 (inl (refl, b, h, refl))
       (each-at (nameChoice fs a) nameBytes (choice true (ascii "*") (state fs (have (wildcard a star))) ∷ []) (b ∷ []) (state fs (have (named a (b ∷ [])))) b h (inl (refl, refl, refl)))
       refl
       refl
       (refl, refl)
 
-  pub star-goes : b ≡ 42 → Goes (state fs (axis a)) (b ∷ t) 35 (mv 3 0 13) 1
+  pub star-goes : b ≡ 42 → Goes (state fs (axis a)) (b ∷ t) 37 (mv 3 0 14) 1
   unfolding next focusCode isPath
   star-goes h =
-      goes (state fs (axis a)) (state fs (have (wildcard a star))) (b ∷ t) (ascii "*") 35 (mv 3 0 13) 1 (inr (refl, refl))
+      goes (state fs (axis a)) (state fs (have (wildcard a star))) (b ∷ t) (ascii "*") 37 (mv 3 0 14) 1 (inr (refl, refl))
       (each-skip (nameChoice fs a) nameBytes (choice true (ascii "*") (state fs (have (wildcard a star))) ∷ []) (ascii "*") (state fs (have (wildcard a star))) (inl (refl, refl, refl)))
       (ap (λ (k : ℕ). k ∷ []) h)
       refl
@@ -684,16 +711,17 @@ Turned s t (Halt p) = Halts s t p
 
 pub past-axis : (e : Expr) → (eqb (focusCode (have e)) 0 ≡ false) × (eqb (focusCode (have e)) 1 ≡ false) × (ltb 1 (focusCode (have e)) ≡ true)
 unfolding focusCode
-past-axis e = tested (focusCode (have e)) (go (isNamed e) (isDot e) (isPath e))
+past-axis e = tested (focusCode (have e)) (go (isNamed e) (isDot e) (isGroup e) (isPath e))
   where
     tested : (f : ℕ) → 2 ≤ f → (eqb f 0 ≡ false) × (eqb f 1 ≡ false) × (ltb 1 f ≡ true)
     tested f h = (ne-eqb f 0 (λ q. omega arith), ne-eqb f 1 (λ q. omega arith), lt-ltb 1 f h)
 
-    go : (n d p : Bool) → 2 ≤ cond n (nameFocus (nameOf e)) (cond d 4 (cond p 3 2))
-    go true d p = let h = name-high (nameOf e) in omega arith
-    go false true p = omega arith
-    go false false true = omega arith
-    go false false false = omega arith
+    go : (n d g p : Bool) → 2 ≤ cond n (nameFocus (nameOf e)) (cond d 5 (cond g 4 (cond p 3 2)))
+    go true d g p = let h = name-high (nameOf e) in omega arith
+    go false true g p = omega arith
+    go false false true p = omega arith
+    go false false false true = omega arith
+    go false false false false = omega arith
 
 pub turned : (s : State) (c : List ℕ) → After s c → (b : ℕ) (t : List ℕ) → Turned s (b ∷ t) (turnOf (focusOf s) (gapsOf s) (b ∷ t))
 unfolding turnOf
@@ -704,13 +732,13 @@ turned (state fs want) c r b t = unfold focusCode in go (scanFrom wordTable (wan
     go (Stop p) e = want-halts fs t b p e
 turned (state fs (axis a)) c r b t = unfold focusCode in go (elem b nameBytes) refl (eqb b 42) refl
   where
-    go : (n : Bool) → elem b nameBytes ≡ n → (q : Bool) → eqb b 42 ≡ q → Turned (state fs (axis a)) (b ∷ t) (cond n (letterTurn 1 b) (cond q (Go 35 (mv 3 0 13) 1) (Halt 0)))
+    go : (n : Bool) → elem b nameBytes ≡ n → (q : Bool) → eqb b 42 ≡ q → Turned (state fs (axis a)) (b ∷ t) (cond n (letterTurn 1 b) (cond q (Go 37 (mv 3 0 14) 1) (Halt 0)))
     go true e q h = first-goes fs a b t e
     go false e true h = star-goes fs a b t (eqb-true b 42 h)
     go false e false h = axis-halts fs a b t e h
 turned (state fs (have e)) c r b t = rw (past-axis e .0, past-axis e .1, focus-named e) (go (isNamed e) refl (elem b nameBytes) refl)
   where
-    scan : (isNamed e && elem b nameBytes) ≡ false → (r : Scan) → scanFrom wordTable (haveMay (focusCode (have e)) (codes fs)) (b ∷ t) 20 14 0 ≡ r
+    scan : (isNamed e && elem b nameBytes) ≡ false → (r : Scan) → scanFrom wordTable (haveMay (focusCode (have e)) (codes fs)) (b ∷ t) 20 16 0 ≡ r
         → Turned (state fs (have e)) (b ∷ t) (ofScan r (haveMove (focusCode (have e)) (codes fs)))
     scan n (Word k) h = have-goes fs e b t k h
     scan n (Stop p) h = have-halts fs e b t p n h
@@ -718,5 +746,5 @@ turned (state fs (have e)) c r b t = rw (past-axis e .0, past-axis e .1, focus-n
     go : (m : Bool) → isNamed e ≡ m → (n : Bool) → elem b nameBytes ≡ n
         → Turned (state fs (have e)) (b ∷ t) (cond (m && n) (letterTurn (focusCode (have e)) b) (haveTurn (focusCode (have e)) (codes fs) (b ∷ t)))
     go true p true q = name-goes fs e b t (r .1) p q
-    go true p false q = scan (rw (p, q)) (scanFrom wordTable (haveMay (focusCode (have e)) (codes fs)) (b ∷ t) 20 14 0) refl
-    go false p n q = scan (rw p) (scanFrom wordTable (haveMay (focusCode (have e)) (codes fs)) (b ∷ t) 20 14 0) refl
+    go true p false q = scan (rw (p, q)) (scanFrom wordTable (haveMay (focusCode (have e)) (codes fs)) (b ∷ t) 20 16 0) refl
+    go false p n q = scan (rw p) (scanFrom wordTable (haveMay (focusCode (have e)) (codes fs)) (b ∷ t) 20 16 0) refl

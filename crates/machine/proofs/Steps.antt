@@ -8,7 +8,7 @@ use mathlib.Core.List.{List, [], _∷_}
 use lib.ListN.{length, drop, getD}
 use lib.Seq.{getD-drop}
 use lib.Dec.{leb, ltb, eqb}
-use borrow.Author.Tests.{eqb-false}
+use borrow.Author.Tests.{ltb-false}
 use Rattle.model.proofs.Booleans.{no-or}
 use Rattle.grammar.specs.Grammar.{elem, nameBytes}
 use Rattle.words.specs.declared.Scan.{Scan}
@@ -36,7 +36,7 @@ pub top-some : (a : List ℕ) (d j : ℕ) → j < d → getD a (d - j - 1) 0 ≡
 top-some a d j h =
     sym (ap top (stack-drop a d j ∙ stack-some a (d - j) (omega arith)))
 
-pub top-none : (a : List ℕ) (d j : ℕ) → d ≤ j → j ≤ d → 13 ≡ top (drop j (stackOf a d))
+pub top-none : (a : List ℕ) (d j : ℕ) → d ≤ j → j ≤ d → 14 ≡ top (drop j (stackOf a d))
 unfolding stackOf
 top-none a d j h l =
     let e : d - j ≡ 0 = omega arith in
@@ -50,10 +50,10 @@ stack-length a (suc d) = ap suc (stack-length a d)
 
 -- the depth after a step
 
-pub depth-more : (r p d k : ℕ) → r ≡ d - p → ltb k 13 ≡ true → r + 1 ≡ d - p + cond (ltb k 13) 1 0
+pub depth-more : (r p d k : ℕ) → r ≡ d - p → ltb k 14 ≡ true → r + 1 ≡ d - p + cond (ltb k 14) 1 0
 depth-more r p d k e h = rw (h, e)
 
-pub depth-kept : (r p d k : ℕ) → r ≡ d - p → ltb k 13 ≡ false → r ≡ d - p + cond (ltb k 13) 1 0
+pub depth-kept : (r p d k : ℕ) → r ≡ d - p → ltb k 14 ≡ false → r ≡ d - p + cond (ltb k 14) 1 0
 depth-kept r p d k e h = rw h (omega arith)
 
 -- closing gap after gap
@@ -68,12 +68,12 @@ module _ (a : List ℕ) (d n : ℕ) (path : Bool) where
   pub closed-start : Closed d path
   closed-start = record { most = omega arith; count = omega arith; sorted = refl }
 
-  pub closed-on : (left k : ℕ) (p : Bool) → Closed left p → 0 < left → k ≡ getD a (left - 1) 0 → binds n k ≡ true → Closed (left - 1) (not (ltb k 2))
+  pub closed-on : (left k : ℕ) (p : Bool) → Closed left p → 0 < left → k ≡ getD a (left - 1) 0 → binds n k ≡ true → Closed (left - 1) (not (ltb k 3))
   unfolding pops sort
   closed-on left k p w h e b =
       let s : stackOf a left ≡ k ∷ stackOf a (left - 1) = stack-some a left h ∙ ap (λ (i : ℕ). i ∷ stackOf a (left - 1)) (sym e) in
       let c : pops n (stackOf a left) ≡ suc (pops n (stackOf a (left - 1))) = ap (pops n) s ∙ rw b in
-      let q : sort n (stackOf a left) p ≡ sort n (stackOf a (left - 1)) (not (ltb k 2)) = ap (λ (l : List ℕ). sort n l p) s ∙ rw b in
+      let q : sort n (stackOf a left) p ≡ sort n (stackOf a (left - 1)) (not (ltb k 3)) = ap (λ (l : List ℕ). sort n l p) s ∙ rw b in
       let m = w .most in let t = w .count in
       record { most = omega arith; count = omega arith; sorted = w .sorted ∙ q }
 
@@ -103,15 +103,15 @@ pub end-test : (f p d : ℕ) (a : List ℕ) → p ≡ pops 0 (stackOf a d) → (
 end-test f p d a e = rw (stack-length a d, e)
 
 -- whether a gap closes
-pub closes-yes : (n k g : ℕ) → g ≡ k → ltb g 9 ≡ true → leb n (getD (0 ∷ 1 ∷ 2 ∷ 3 ∷ 3 ∷ 5 ∷ 5 ∷ 4 ∷ 5 ∷ []) g 0) ≡ binds n k
+pub closes-yes : (n k g : ℕ) → g ≡ k → ltb g 10 ≡ true → leb n (getD (0 ∷ 1 ∷ 2 ∷ 3 ∷ 4 ∷ 4 ∷ 6 ∷ 6 ∷ 5 ∷ 6 ∷ []) g 0) ≡ binds n k
 closes-yes n k g e h = rw (sym e, h)
 
-pub closes-no : (n k g : ℕ) → g ≡ k → ltb g 9 ≡ false → false ≡ binds n k
+pub closes-no : (n k g : ℕ) → g ≡ k → ltb g 10 ≡ false → false ≡ binds n k
 closes-no n k g e h = rw (sym e, h)
 
--- '()' is the last word
-pub below-33 : (k : ℕ) → (eqb k 23 || eqb k 33) ≡ false → k < 34 → k < 33
-below-33 k h l = let n : k ≡ 33 → ⊥ = eqb-false k 33 (no-or (eqb k 23) (eqb k 33) h .1) in omega arith
+-- '()' and '*' are the last words
+pub below-34 : (k : ℕ) → (eqb k 23 || ltb 33 k) ≡ false → k < 34
+below-34 k h = let n : k ≤ 33 = ltb-false 33 k (no-or (eqb k 23) (ltb 33 k) h .1) in omega arith
 
 -- turns
 
@@ -126,7 +126,7 @@ scan-below (suc n) words may t lo best k h =
     go true p ih = let e : lo ≡ k = cc in omega arith
     go false p ih = let w = ih p in omega arith
 
-pub word-below : (words : List ℕ) (may : List Bool) (t : List ℕ) (lo hi k : ℕ) (r : Scan) → r ≡ Word k → r ≡ scanFrom words may t lo (hi - lo) 0 → lo ≤ hi → hi ≤ 34 → k < 34
+pub word-below : (words : List ℕ) (may : List Bool) (t : List ℕ) (lo hi k : ℕ) (r : Scan) → r ≡ Word k → r ≡ scanFrom words may t lo (hi - lo) 0 → lo ≤ hi → hi ≤ 36 → k < 36
 word-below words may t lo hi k r e s l h = let w = scan-below (hi - lo) words may t lo 0 k (sym s ∙ e) in omega arith
 
 pub want-word : (ks t : List ℕ) (g k len : ℕ) (may : List Bool) (r : Scan) (m : Move)
@@ -143,24 +143,26 @@ want-stop ks t g p may r e s f h =
     rw z
 
 pub have-word : (f : ℕ) (ks t : List ℕ) (k len : ℕ) (may : List Bool) (r : Scan) (m : Move)
-    → r ≡ Word k → r ≡ scanFrom wordTable may t 20 14 0 → may ≡ haveMay f ks → m ≡ haveMove f ks k → len ≡ length (slot wordTable k) → Go k m len ≡ haveTurn f ks t
+    → r ≡ Word k → r ≡ scanFrom wordTable may t 20 16 0 → may ≡ haveMay f ks → m ≡ haveMove f ks k → len ≡ length (slot wordTable k) → Go k m len ≡ haveTurn f ks t
 have-word f ks t k len may r m e s a q l =
-    let z : scanFrom wordTable (haveMay f ks) t 20 14 0 ≡ Word k = ap (λ (b : List Bool). scanFrom wordTable b t 20 14 0) (sym a) ∙ sym s ∙ e in
+    let z : scanFrom wordTable (haveMay f ks) t 20 16 0 ≡ Word k = ap (λ (b : List Bool). scanFrom wordTable b t 20 16 0) (sym a) ∙ sym s ∙ e in
     rw (z, q, l)
 
 pub have-stop : (f : ℕ) (ks t : List ℕ) (p : ℕ) (may : List Bool) (r : Scan)
-    → r ≡ Stop p → r ≡ scanFrom wordTable may t 20 14 0 → may ≡ haveMay f ks → Halt p ≡ haveTurn f ks t
+    → r ≡ Stop p → r ≡ scanFrom wordTable may t 20 16 0 → may ≡ haveMay f ks → Halt p ≡ haveTurn f ks t
 have-stop f ks t p may r e s a =
-    let z : scanFrom wordTable (haveMay f ks) t 20 14 0 ≡ Stop p = ap (λ (b : List Bool). scanFrom wordTable b t 20 14 0) (sym a) ∙ sym s ∙ e in
+    let z : scanFrom wordTable (haveMay f ks) t 20 16 0 ≡ Stop p = ap (λ (b : List Bool). scanFrom wordTable b t 20 16 0) (sym a) ∙ sym s ∙ e in
     rw z
 
-pub follow : (f o i b p q : ℕ) (ks : List ℕ) (r : List Bool) → r ≡ haveFlags f o i b → o ≡ top ks → i ≡ top (drop p ks) → b ≡ top (drop q ks) → p ≡ pops 0 ks → q ≡ pops 1 ks
+pub gap-after : (n p r : ℕ) (ks : List ℕ) → r ≡ top (drop p ks) → p ≡ pops n ks → r ≡ top (drop (pops n ks) ks)
+gap-after n p r ks e h = e ∙ ap (λ (i : ℕ). top (drop i ks)) h
+
+pub follow : (f o i b p : ℕ) (ks : List ℕ) (r : List Bool) → r ≡ haveFlags f o i b p → o ≡ top ks → i ≡ top (drop (pops 0 ks) ks) → b ≡ top (drop (pops 1 ks) ks) → p ≡ top (drop (pops 3 ks) ks)
     → r ≡ haveMay f ks
 unfolding haveMay
-follow f o i b p q ks r e x y z u v =
-    let y′ : i ≡ top (drop (pops 0 ks) ks) = y ∙ ap (λ (n : ℕ). top (drop n ks)) u in
-    let z′ : b ≡ top (drop (pops 1 ks) ks) = z ∙ ap (λ (n : ℕ). top (drop n ks)) v in
-    e ∙ ap (λ (n : ℕ). haveFlags f n i b) x ∙ ap (λ (n : ℕ). haveFlags f (top ks) n b) y′ ∙ ap (λ (n : ℕ). haveFlags f (top ks) (top (drop (pops 0 ks) ks)) n) z′
+follow f o i b p ks r e x y z u =
+    e ∙ ap (λ (n : ℕ). haveFlags f n i b p) x ∙ ap (λ (n : ℕ). haveFlags f (top ks) n b p) y ∙ ap (λ (n : ℕ). haveFlags f (top ks) (top (drop (pops 0 ks) ks)) n p) z
+    ∙ ap (haveFlags f (top ks) (top (drop (pops 0 ks) ks)) (top (drop (pops 1 ks) ks))) u
 
 -- one turn, by the focus
 
@@ -169,8 +171,8 @@ module _ (f : ℕ) (ks text : List ℕ) (at : ℕ) where
   front-byte = getD-drop at text 0 0 ∙ (let e : at + 0 ≡ at = omega arith in ap (λ (i : ℕ). getD text i 0) e)
 
   -- whether a name goes on
-  goes-on : (n y : Bool) → n ≡ elem (getD text at 0) nameBytes → (ltb 4 f && n) ≡ y → (ltb 4 f && elem (getD (drop at text) 0 0) nameBytes) ≡ y
-  goes-on n y q h = ap (λ (i : ℕ). ltb 4 f && elem i nameBytes) front-byte ∙ ap (λ (b : Bool). ltb 4 f && b) (sym q) ∙ h
+  goes-on : (n y : Bool) → n ≡ elem (getD text at 0) nameBytes → (ltb 5 f && n) ≡ y → (ltb 5 f && elem (getD (drop at text) 0 0) nameBytes) ≡ y
+  goes-on n y q h = ap (λ (i : ℕ). ltb 5 f && elem i nameBytes) front-byte ∙ ap (λ (b : Bool). ltb 5 f && b) (sym q) ∙ h
 
   pub step-want : (r : Turn) → r ≡ wantTurn ks (drop at text) → eqb f 0 ≡ true → r ≡ turnOf f ks (drop at text)
   unfolding turnOf
@@ -180,12 +182,12 @@ module _ (f : ℕ) (ks text : List ℕ) (at : ℕ) where
   unfolding turnOf
   step-axis r e h n = e ∙ rw (n, h, front-byte)
 
-  pub step-name : (r : Turn) (n : Bool) → r ≡ letterTurn f (getD text at 0) → n ≡ elem (getD text at 0) nameBytes → (ltb 4 f && n) ≡ true → eqb f 1 ≡ false → eqb f 0 ≡ false
+  pub step-name : (r : Turn) (n : Bool) → r ≡ letterTurn f (getD text at 0) → n ≡ elem (getD text at 0) nameBytes → (ltb 5 f && n) ≡ true → eqb f 1 ≡ false → eqb f 0 ≡ false
       → r ≡ turnOf f ks (drop at text)
   unfolding turnOf
   step-name r n e q h a w = e ∙ rw (w, a, goes-on n true q h, front-byte)
 
-  pub step-have : (r : Turn) (n : Bool) → r ≡ haveTurn f ks (drop at text) → n ≡ elem (getD text at 0) nameBytes → (ltb 4 f && n) ≡ false → eqb f 1 ≡ false → eqb f 0 ≡ false
+  pub step-have : (r : Turn) (n : Bool) → r ≡ haveTurn f ks (drop at text) → n ≡ elem (getD text at 0) nameBytes → (ltb 5 f && n) ≡ false → eqb f 1 ≡ false → eqb f 0 ≡ false
       → r ≡ turnOf f ks (drop at text)
   unfolding turnOf
   step-have r n e q h a w = e ∙ rw (w, a, goes-on n false q h)

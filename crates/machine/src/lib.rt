@@ -6,14 +6,14 @@ ghost use Prim.Native.Nat.{_+_, _-_, _*_, _≤_, _<_};
 ghost use lib.ListN.{length, drop, set};
 ghost use Rattle.machine.specs.Machine.{takes, slashes, binds, pops, sort, top, stackOf, letterFocus, wantMay, wantMove, slashMove, haveFlags, haveMay, bracketFocus, closeMove, joinMove, haveMove, wantTurn, letterTurn, axisTurn, haveTurn, turnOf, mayEnd};
 
-// A step of the reading: the new focus, how many gaps close, and the gap that opens, or 13 (specs/Machine.antt).
+// A step of the reading: the new focus, how many gaps close, and the gap that opens, or 14 (specs/Machine.antt).
 pub struct Move {
     pub focus: u8,
     pub pops: usize,
     pub push: u8,
 }
 
-// A turn of the reading: the word that is read, 34 for a byte of a name and 35 for the star behind an axis, the step that it makes
+// A turn of the reading: the word that is read, 36 for a byte of a name and 37 for the star behind an axis, the step that it makes
 // and its length; or how many bytes are read before it stops.
 pub enum Turn {
     Go(usize, Move, usize),
@@ -26,32 +26,32 @@ pub struct Closing {
     pub path: bool,
 }
 
-// How tightly the gaps 0 to 8 bind.
-const LEVELS: [usize; 9] = [0, 1, 2, 3, 3, 5, 5, 4, 5];
+// How tightly the gaps 0 to 9 bind.
+const LEVELS: [usize; 10] = [0, 1, 2, 3, 4, 4, 6, 6, 5, 6];
 
-// How tightly the operators of words 27 to 32 bind.
-const OPERATORS: [usize; 6] = [0, 1, 2, 3, 3, 5];
+// How tightly the left operands of words 27 to 33 bind: as the operator does, that of ' same ' tighter.
+const OPERATORS: [usize; 7] = [0, 1, 3, 3, 4, 4, 6];
 
 // The gap takes a node expression.
 fn takes_test(k: u8) -> bool
     ensures { λ r. ⌜ r ≡ takes k ⌝ }
 {
-    (k < 2) | ((9 < k) & (k < 13))
+    (k < 2) | ((10 < k) & (k < 14))
 }
 
 // A slash may come in the gap.
 fn takes_slash(k: u8) -> bool
     ensures { λ r. ⌜ r ≡ slashes k ⌝ }
 {
-    (k != 6) & (k != 8)
+    (k != 7) & (k != 9)
 }
 
-// The gap closes before an operator that binds at n.
+// The gap closes before what binds at n to its left.
 pub fn closes(n: usize, k: u8) -> bool
     ensures { λ r. ⌜ r ≡ binds n k ⌝ }
 {
     let gap = words::wide(k);
-    let inner = gap < 9;
+    let inner = gap < 10;
     if inner {
         return n <= LEVELS[gap];
     }
@@ -73,7 +73,7 @@ fn close(stack: &[u8], depth: usize, n: usize, path: bool) -> Closing
                 path: is_path,
             };
         }
-        is_path = !(k < 2);
+        is_path = !(k < 3);
         left = left - 1;
     }
     Closing {
@@ -90,11 +90,20 @@ pub fn innermost(stack: &[u8], depth: usize, closed: usize) -> u8
     if closed < depth {
         return stack[depth - closed - 1];
     }
-    13
+    14
+}
+
+// The innermost gap, where those have closed that bind at n or tighter.
+fn innermost_after(stack: &[u8], depth: usize, n: usize) -> u8
+    requires { ⌜ depth ≤ length (now stack) ⌝ }
+    ensures { λ r. ⌜ r ≡ top (drop (pops n (stackOf (now (stack .entry)) depth)) (stackOf (now (stack .entry)) depth)) ⌝ }
+{
+    let c = close(stack, depth, n, true);
+    innermost(stack, depth, c.pops)
 }
 
 // Which words may come where an expression is wanted.
-fn want_may(t: u8) -> [bool; 34]
+fn want_may(t: u8) -> [bool; 36]
     ensures { λ r. ⌜ r ≡ wantMay t ⌝ }
 {
     let test = takes_test(t);
@@ -134,6 +143,8 @@ fn want_may(t: u8) -> [bool; 34]
         false,
         false,
         false,
+        false,
+        false,
     ]
 }
 
@@ -141,38 +152,38 @@ fn want_may(t: u8) -> [bool; 34]
 fn slash_move(t: u8) -> Move
     ensures { λ r. ⌜ r ≡ slashMove t ⌝ }
 {
-    let after_slash = t == 5;
+    let after_slash = t == 6;
     if after_slash {
         return Move {
             focus: 0,
             pops: 1,
-            push: 6,
+            push: 7,
         };
     }
-    let after_lead = t == 7;
+    let after_lead = t == 8;
     if after_lead {
         return Move {
             focus: 0,
             pops: 0,
-            push: 8,
+            push: 9,
         };
     }
     Move {
         focus: 0,
         pops: 0,
-        push: 7,
+        push: 8,
     }
 }
 
 // The code of an open bracket.
 fn bracket_code(t: u8) -> u8
-    ensures { λ r. ⌜ r ≡ cond (takes t) 10 9 ⌝ }
+    ensures { λ r. ⌜ r ≡ cond (takes t) 11 10 ⌝ }
 {
     let test = takes_test(t);
     if test {
-        return 10;
+        return 11;
     }
-    9
+    10
 }
 
 // The step that word k makes where an expression is wanted.
@@ -184,7 +195,7 @@ fn want_move(t: u8, k: usize) -> Move
         return Move {
             focus: 1,
             pops: 0,
-            push: 13,
+            push: 14,
         };
     }
     let variable = k < 16;
@@ -192,15 +203,15 @@ fn want_move(t: u8, k: usize) -> Move
         return Move {
             focus: 3,
             pops: 0,
-            push: 13,
+            push: 14,
         };
     }
     let dot = k == 16;
     if dot {
         return Move {
-            focus: 4,
+            focus: 5,
             pops: 0,
-            push: 13,
+            push: 14,
         };
     }
     let bracket = k == 17;
@@ -216,24 +227,26 @@ fn want_move(t: u8, k: usize) -> Move
         return Move {
             focus: 0,
             pops: 0,
-            push: 11,
+            push: 12,
         };
     }
     slash_move(t)
 }
 
 // Which words may come behind an expression.
-fn have_may(f: u8, outer: u8, inner: u8, both: u8) -> [bool; 34]
-    ensures { λ r. ⌜ r ≡ haveFlags f outer inner both ⌝ }
+fn have_may(f: u8, outer: u8, inner: u8, both: u8, pair: u8) -> [bool; 36]
+    ensures { λ r. ⌜ r ≡ haveFlags f outer inner both pair ⌝ }
 {
-    let dot = f == 4;
+    let dot = f == 5;
     let is = dot & takes_test(outer);
     let path = 2 < f;
-    let filter = inner == 12;
-    let bracket = (8 < inner) & (inner < 12);
+    let filter = inner == 13;
+    let bracket = (9 < inner) & (inner < 13);
     let or = takes_test(inner);
     let and = takes_test(both);
-    let node = f == 9;
+    let same = path & takes_test(pair);
+    let node = f == 10;
+    let star = f == 4;
     [
         false,
         false,
@@ -264,11 +277,13 @@ fn have_may(f: u8, outer: u8, inner: u8, both: u8) -> [bool; 34]
         bracket,
         or,
         and,
+        same,
         path,
         path,
         path,
         path,
         node,
+        star,
     ]
 }
 
@@ -276,12 +291,12 @@ fn have_may(f: u8, outer: u8, inner: u8, both: u8) -> [bool; 34]
 fn bracket_focus(inner: u8, path: bool) -> u8
     ensures { λ r. ⌜ r ≡ bracketFocus inner path ⌝ }
 {
-    let negation = inner == 11;
+    let negation = inner == 12;
     if negation {
         return 2;
     }
     if path {
-        return 3;
+        return 4;
     }
     2
 }
@@ -298,20 +313,20 @@ fn close_move(f: u8, stack: &[u8], depth: usize, k: usize) -> Move
         return Move {
             focus: 3,
             pops: pops + 1,
-            push: 13,
+            push: 14,
         };
     }
     let inner = innermost(stack, depth, pops);
     Move {
         focus: bracket_focus(inner, c.path),
         pops: pops + 1,
-        push: 13,
+        push: 14,
     }
 }
 
 // The step that an operator makes.
 fn join_move(stack: &[u8], depth: usize, k: usize) -> Move
-    requires { ⌜ (depth ≤ length (now stack)) × (27 ≤ k) × (k < 33) ⌝ }
+    requires { ⌜ (depth ≤ length (now stack)) × (27 ≤ k) × (k < 34) ⌝ }
     ensures { λ r. ⌜ r ≡ joinMove (stackOf (now (stack .entry)) depth) k ⌝ }
 {
     let o = k - 27;
@@ -325,7 +340,7 @@ fn join_move(stack: &[u8], depth: usize, k: usize) -> Move
 
 // The step that word k makes behind an expression.
 fn have_move(f: u8, stack: &[u8], depth: usize, k: usize) -> Move
-    requires { ⌜ (depth ≤ length (now stack)) × (k < 34) ⌝ }
+    requires { ⌜ (depth ≤ length (now stack)) × (k < 36) ⌝ }
     ensures { λ r. ⌜ r ≡ haveMove f (stackOf (now (stack .entry)) depth) k ⌝ }
 {
     let is = k < 23;
@@ -333,15 +348,15 @@ fn have_move(f: u8, stack: &[u8], depth: usize, k: usize) -> Move
         return Move {
             focus: 2,
             pops: 0,
-            push: 13,
+            push: 14,
         };
     }
-    let completed = (k == 23) | (k == 33);
+    let completed = (k == 23) | (33 < k);
     if completed {
         return Move {
             focus: 3,
             pops: 0,
-            push: 13,
+            push: 14,
         };
     }
     let test = k == 24;
@@ -349,7 +364,7 @@ fn have_move(f: u8, stack: &[u8], depth: usize, k: usize) -> Move
         return Move {
             focus: 0,
             pops: 0,
-            push: 12,
+            push: 13,
         };
     }
     let closing = k < 27;
@@ -359,27 +374,27 @@ fn have_move(f: u8, stack: &[u8], depth: usize, k: usize) -> Move
     join_move(stack, depth, k)
 }
 
-// The focus behind one letter more of a name: 6 to 9 behind "n", "no", "nod" and "node", and 5 behind any other.
+// The focus behind one letter more of a name: 7 to 10 behind "n", "no", "nod" and "node", and 6 behind any other.
 fn letter_focus(f: u8, b: u8) -> u8
     ensures { λ r. ⌜ r ≡ letterFocus f b ⌝ }
 {
     let n = (f == 1) & (b == 110);
     if n {
-        return 6;
-    }
-    let o = (f == 6) & (b == 111);
-    if o {
         return 7;
     }
-    let d = (f == 7) & (b == 100);
-    if d {
+    let o = (f == 7) & (b == 111);
+    if o {
         return 8;
     }
-    let e = (f == 8) & (b == 101);
-    if e {
+    let d = (f == 8) & (b == 100);
+    if d {
         return 9;
     }
-    5
+    let e = (f == 9) & (b == 101);
+    if e {
+        return 10;
+    }
+    6
 }
 
 // A turn at a byte of a name.
@@ -387,11 +402,11 @@ fn letter_turn(f: u8, b: u8) -> Turn
     ensures { λ r. ⌜ r ≡ letterTurn f b ⌝ }
 {
     Turn::Go(
-        34,
+        36,
         Move {
             focus: letter_focus(f, b),
             pops: 0,
-            push: 13,
+            push: 14,
         },
         1,
     )
@@ -408,11 +423,11 @@ fn axis_turn(b: u8) -> Turn
     let star = b == 42;
     if star {
         return Turn::Go(
-            35,
+            37,
             Move {
                 focus: 3,
                 pops: 0,
-                push: 13,
+                push: 14,
             },
             1,
         );
@@ -434,16 +449,15 @@ fn want_turn(stack: &[u8], depth: usize, text: &[u8], at: usize) -> Turn
 }
 
 // The words that may come behind an expression, by the gaps.
-fn may_follow(f: u8, stack: &[u8], depth: usize) -> [bool; 34]
+fn may_follow(f: u8, stack: &[u8], depth: usize) -> [bool; 36]
     requires { ⌜ depth ≤ length (now stack) ⌝ }
     ensures { λ r. ⌜ r ≡ haveMay f (stackOf (now (stack .entry)) depth) ⌝ }
 {
-    let all = close(stack, depth, 0, true);
-    let some = close(stack, depth, 1, true);
     let outer = innermost(stack, depth, 0);
-    let inner = innermost(stack, depth, all.pops);
-    let both = innermost(stack, depth, some.pops);
-    have_may(f, outer, inner, both)
+    let inner = innermost_after(stack, depth, 0);
+    let both = innermost_after(stack, depth, 1);
+    let pair = innermost_after(stack, depth, 3);
+    have_may(f, outer, inner, both, pair)
 }
 
 // A turn behind an expression, where its name goes on no longer.
@@ -452,7 +466,7 @@ fn have_turn(f: u8, stack: &[u8], depth: usize, text: &[u8], at: usize) -> Turn
     ensures { λ r. ⌜ r ≡ haveTurn f (stackOf (now (stack .entry)) depth) (drop at (now (text .entry))) ⌝ }
 {
     let may = may_follow(f, stack, depth);
-    match words::word_at(text, at, may, 20, 34) {
+    match words::word_at(text, at, may, 20, 36) {
         words::Scan::Word(k) => Turn::Go(k, have_move(f, stack, depth, k), words::word_len(k)),
         words::Scan::Stop(p) => Turn::Halt(p),
     }
@@ -472,7 +486,7 @@ pub fn step(f: u8, stack: &[u8], depth: usize, text: &[u8], at: usize) -> Turn
     if after_axis {
         return axis_turn(b);
     }
-    let longer = (4 < f) & grammar::is_name_byte(b);
+    let longer = (5 < f) & grammar::is_name_byte(b);
     if longer {
         return letter_turn(f, b);
     }
@@ -501,11 +515,11 @@ fn left(depth: usize, pops: usize) -> usize
 // Makes a step on the stack, and tells the new depth. The slot is written even where no gap opens: it is not read then.
 pub fn make(m: Move, stack: &mut [u8], depth: usize) -> usize
     requires { ⌜ depth < length (now stack) ⌝ }
-    ensures { λ r. ⌜ (r ≡ depth - m .pops + cond (ltb (m .push) 13) 1 0) × (now (stack .exit) ≡ set (now (stack .entry)) (depth - m .pops) (m .push)) ⌝ }
+    ensures { λ r. ⌜ (r ≡ depth - m .pops + cond (ltb (m .push) 14) 1 0) × (now (stack .exit) ≡ set (now (stack .entry)) (depth - m .pops) (m .push)) ⌝ }
 {
     let keep = left(depth, m.pops);
     stack[keep] = m.push;
-    let opens = m.push < 13;
+    let opens = m.push < 14;
     if opens {
         return keep + 1;
     }

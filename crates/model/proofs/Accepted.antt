@@ -15,8 +15,9 @@ use Rattle.model.specs.Tree.{Tree, treeAt, treeOf, sizeOf}
 use Rattle.model.specs.Axes.{self, ancestor, descendant, following, preceding, isDocument, descendantOrSelf}
 use Rattle.model.specs.QueryTable.{entriesOf, kind, left, right, tag, entry, lastOf}
 use Rattle.model.specs.Refusals.{verdict}
-use Rattle.model.specs.Checks.{badParent, badTag, treeChecksAt, treeChecks, leftPath, leftExpr, rightPath, rightExpr, namesVariable, hasLeft, hasRight, badStep, badVariable, badUnnamed, badEntry, queryChecks}
-use Rattle.model.specs.Accepted.{Falling, Sound, Ordered, Shaped, Evaluable}
+use Rattle.model.specs.Kinds.{isPath, leftPath, leftExpr, rightPath, rightExpr, namesVariable, hasLeft, hasRight}
+use Rattle.model.specs.Checks.{badParent, badTag, treeChecksAt, treeChecks, badStep, badVariable, badUnnamed, badEntry, queryChecks}
+use Rattle.model.specs.Accepted.{Falling, Sound, Ordered, Formed, Shaped, Evaluable}
 use Rattle.model.proofs.Booleans.{Seen, seen, no-yes, both-yes, or-left, or-right, or-cases, not-yes, no-or, guarded}
 use Rattle.model.proofs.Booleans.Seen.{yes!, no! }
 use Rattle.model.proofs.Exists.{none-of}
@@ -102,8 +103,8 @@ tree-ordered t w = at-ordered 2 t w
 below : (a : Bool) (x y : ℕ) → (a && not (ltb x y)) ≡ false → a ≡ true → x < y
 below a x y h p = ltb-true x y (not-false (ltb x y) (guarded a (not (ltb x y)) h p))
 
-above : (a : Bool) (x y : ℕ) → (a && ltb x y) ≡ false → a ≡ true → y ≤ x
-above a x y h p = ltb-false x y (guarded a (ltb x y) h p)
+sorted : (a b : Bool) → (a && not b) ≡ false → a ≡ true → b ≡ true
+sorted a b h p = not-false b (guarded a (not b) h p)
 
 module _ (q : List ℕ) (least columns : ℕ) (b : Passes (queryChecks q least columns)) where
   -- the length and the number of variables
@@ -121,17 +122,17 @@ module _ (q : List ℕ) (least columns : ℕ) (b : Passes (queryChecks q least c
   unfolding queryChecks Passes
   columns-least = ltb-false columns least (no-or (ltb columns least) (ltb 3 columns) (b .1 .0) .0)
 
-  pub last-path : kind q (lastOf q) < 8
+  pub last-path : isPath (kind q (lastOf q)) ≡ true
   unfolding queryChecks Passes
-  last-path = ltb-true (kind q (lastOf q)) 8 (not-false (ltb (kind q (lastOf q)) 8) (b .1 .1 .1 .1 .1 .1 .1 .0))
+  last-path = not-false (isPath (kind q (lastOf q))) (b .1 .1 .1 .1 .1 .1 .1 .0)
 
   module _ (e : ℕ) (l : e < entriesOf q) where
     none : (k : ℕ) → any (entriesOf q) (badEntry q columns k) ≡ false → badEntry q columns k e ≡ false
     none k h = none-of (entriesOf q) (badEntry q columns k) e h l
 
-    known-at : kind q e ≤ 12
+    known-at : kind q e ≤ 14
     unfolding queryChecks Passes badEntry
-    known-at = ltb-false 12 (kind q e) (none 10 (b .1 .1 .0))
+    known-at = ltb-false 14 (kind q e) (none 10 (b .1 .1 .0))
 
     fields-at : (badStep (entry q e) ≡ false) × ((badVariable columns (entry q e) || badUnnamed (entry q e)) ≡ false)
     unfolding queryChecks Passes badEntry
@@ -154,15 +155,15 @@ module _ (q : List ℕ) (least columns : ℕ) (b : Passes (queryChecks q least c
     right-at : hasRight (kind q e) ≡ true → right q e < e
     right-at p = below (hasRight (kind q e)) (right q e) e (operands .1) p
 
-    sorts : (((leftPath (kind q e) && not (ltb (kind q (left q e)) 8)) || (leftExpr (kind q e) && ltb (kind q (left q e)) 8)) ≡ false) × (((rightPath (kind q e) && not (ltb (kind q (right q e)) 8)) || (rightExpr (kind q e) && ltb (kind q (right q e)) 8)) ≡ false)
+    sorts : (((leftPath (kind q e) && not (isPath (kind q (left q e)))) || (leftExpr (kind q e) && isPath (kind q (left q e)))) ≡ false) × (((rightPath (kind q e) && not (isPath (kind q (right q e)))) || (rightExpr (kind q e) && isPath (kind q (right q e)))) ≡ false)
     unfolding queryChecks Passes badEntry
     sorts = no-or _ _ (none 13 (b .1 .1 .1 .1 .1 .0))
 
-    left-sort : ((leftPath (kind q e) && not (ltb (kind q (left q e)) 8)) ≡ false) × ((leftExpr (kind q e) && ltb (kind q (left q e)) 8) ≡ false)
-    left-sort = no-or (leftPath (kind q e) && not (ltb (kind q (left q e)) 8)) (leftExpr (kind q e) && ltb (kind q (left q e)) 8) (sorts .0)
+    left-sort : ((leftPath (kind q e) && not (isPath (kind q (left q e)))) ≡ false) × ((leftExpr (kind q e) && isPath (kind q (left q e))) ≡ false)
+    left-sort = no-or (leftPath (kind q e) && not (isPath (kind q (left q e)))) (leftExpr (kind q e) && isPath (kind q (left q e))) (sorts .0)
 
-    right-sort : ((rightPath (kind q e) && not (ltb (kind q (right q e)) 8)) ≡ false) × ((rightExpr (kind q e) && ltb (kind q (right q e)) 8) ≡ false)
-    right-sort = no-or (rightPath (kind q e) && not (ltb (kind q (right q e)) 8)) (rightExpr (kind q e) && ltb (kind q (right q e)) 8) (sorts .1)
+    right-sort : ((rightPath (kind q e) && not (isPath (kind q (right q e)))) ≡ false) × ((rightExpr (kind q e) && isPath (kind q (right q e))) ≡ false)
+    right-sort = no-or (rightPath (kind q e) && not (isPath (kind q (right q e)))) (rightExpr (kind q e) && isPath (kind q (right q e))) (sorts .1)
 
   few-entries : entriesOf q ≤ 64
   unfolding queryChecks Passes
@@ -171,25 +172,23 @@ module _ (q : List ℕ) (least columns : ℕ) (b : Passes (queryChecks q least c
       omega arith
 
   -- an accepted query has the shape
-  pub query-shaped : Shaped q
-  query-shaped = record {
-    few = few-entries;
+  query-formed : Formed q
+  query-formed = record {
     known = known-at;
-    left-path = λ e l p. (left-at e l (or-left (leftPath (kind q e)) (leftExpr (kind q e)) p), below (leftPath (kind q e)) (kind q (left q e)) 8 (left-sort e l .0) p);
-    left-expr = λ e l p. (left-at e l (or-right (leftPath (kind q e)) (leftExpr (kind q e)) p), above (leftExpr (kind q e)) (kind q (left q e)) 8 (left-sort e l .1) p);
-    right-path = λ e l p. (right-at e l (or-left (rightPath (kind q e)) (rightExpr (kind q e)) p), below (rightPath (kind q e)) (kind q (right q e)) 8 (right-sort e l .0) p);
-    right-expr = λ e l p. (right-at e l (or-right (rightPath (kind q e)) (rightExpr (kind q e)) p), above (rightExpr (kind q e)) (kind q (right q e)) 8 (right-sort e l .1) p);
+    left-path = λ e l p. (left-at e l (or-left (leftPath (kind q e)) (leftExpr (kind q e)) p), sorted (leftPath (kind q e)) (isPath (kind q (left q e))) (left-sort e l .0) p);
+    left-expr = λ e l p. (left-at e l (or-right (leftPath (kind q e)) (leftExpr (kind q e)) p), guarded (leftExpr (kind q e)) (isPath (kind q (left q e))) (left-sort e l .1) p);
+    right-path = λ e l p. (right-at e l (or-left (rightPath (kind q e)) (rightExpr (kind q e)) p), sorted (rightPath (kind q e)) (isPath (kind q (right q e))) (right-sort e l .0) p);
+    right-expr = λ e l p. (right-at e l (or-right (rightPath (kind q e)) (rightExpr (kind q e)) p), guarded (rightExpr (kind q e)) (isPath (kind q (right q e))) (right-sort e l .1) p);
   }
+
+  pub query-shaped : Shaped q
+  query-shaped = record { few = few-entries; formed = query-formed }
 
   -- and can be evaluated under any assignment to nodes
   pub query-evaluable : (t nodes : List ℕ) → length nodes ≡ columns → ((k : ℕ) → k < length nodes → getD nodes k 0 < sizeOf t) → Evaluable t q nodes
   query-evaluable t nodes many held = record {
-    known = known-at;
+    formed = query-formed;
     axis = axis-at;
-    left-path = query-shaped .left-path;
-    left-expr = query-shaped .left-expr;
-    right-path = query-shaped .right-path;
-    right-expr = query-shaped .right-expr;
     variable = λ e l p. rw many (variable-at e l p);
     node = held;
   }

@@ -6,8 +6,8 @@ use mathlib.Core.List.{List, [], _∷_, _++_, append-assoc, append-nil}
 use lib.ListN.{length, getD, length-append}
 use lib.Seq.{getD-append-add}
 use Rattle.model.specs.Syntax.{Path, NodeExpr}
-use Rattle.model.specs.Syntax.Path.{step, compose, union, intersect, except, filter, variable, fromRoot}
-use Rattle.model.specs.Syntax.NodeExpr.{exists, negate, both, either, is}
+use Rattle.model.specs.Syntax.Path.{step, compose, union, intersect, except, filter, variable, fromRoot, closure}
+use Rattle.model.specs.Syntax.NodeExpr.{exists, negate, both, either, is, same}
 use Rattle.model.specs.QueryTable.{Parsed, entriesOf, kind, left, right, tag, ofExpr, parse, parseOver, parsed, parsedAt, pathAt, lastOf}
 use Rattle.model.proofs.QueryTable.{entry-at}
 use Rattle.model.specs.Encoding.{Term, pathTerm, exprTerm, size, entry4, encode, tableOf}
@@ -121,6 +121,7 @@ mutual
   reads-path (filter p e) w (x, y, l, h, u, v) = ap (λ (w : Parsed). w .path) h ∙ ap₂ filter (reads-path p x u) (reads-expr e y v)
   reads-path (variable k) w (x, y, h) = ap (λ (w : Parsed). w .path) h
   reads-path (fromRoot p) w (x, y, l, h, u) = ap (λ (w : Parsed). w .path) h ∙ ap fromRoot (reads-path p x u)
+  reads-path (closure p) w (x, y, l, h, u) = ap (λ (w : Parsed). w .path) h ∙ ap closure (reads-path p x u)
 
   reads-expr : (e : NodeExpr) (w : Parsed) → Reads (exprTerm e) w → w .expr ≡ e
   reads-expr (exists p) w (x, y, l, h, u) = ap (λ (w : Parsed). w .expr) h ∙ ap exists (reads-path p x u)
@@ -128,6 +129,7 @@ mutual
   reads-expr (both e f) w (x, y, l, h, u, v) = ap (λ (w : Parsed). w .expr) h ∙ ap₂ both (reads-expr e x u) (reads-expr f y v)
   reads-expr (either e f) w (x, y, l, h, u, v) = ap (λ (w : Parsed). w .expr) h ∙ ap₂ either (reads-expr e x u) (reads-expr f y v)
   reads-expr (is k) w (x, y, h) = ap (λ (w : Parsed). w .expr) h
+  reads-expr (same p q) w (x, y, l, h, u, v) = ap (λ (w : Parsed). w .expr) h ∙ ap₂ same (reads-path p x u) (reads-path q y v)
 
 pub entries-table : (a : Term) → entriesOf (encode 0 a) ≡ size a
 entries-table a = omega (arith, length-encode a 0)

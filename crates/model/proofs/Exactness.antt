@@ -12,8 +12,8 @@ use Rattle.model.specs.Sets.{any}
 use Rattle.model.specs.Tree.{Tree}
 use Rattle.model.specs.Axes.{axis}
 use Rattle.model.specs.Syntax.{Path, NodeExpr}
-use Rattle.model.specs.Syntax.Path.{step, compose, union, intersect, except, filter, variable, fromRoot}
-use Rattle.model.specs.Syntax.NodeExpr.{exists, negate, both, either, is}
+use Rattle.model.specs.Syntax.Path.{step, compose, union, intersect, except, filter, variable, fromRoot, closure}
+use Rattle.model.specs.Syntax.NodeExpr.{exists, negate, both, either, is, same}
 use Rattle.model.specs.Meaning.{pairsOver, holdsOver, pairs, holds}
 use Rattle.model.specs.Sharing.{inPath, inExpr, shared, used, pathBreaks, exprBreaks, Unshared, UnsharedExpr, anyNode, everywhere, opened, openedExpr, Fills, Exact}
 use Rattle.model.specs.Accepted.{Sound}
@@ -178,6 +178,7 @@ module _ (t : Tree) (sound : Sound t) (free : ℕ → Bool) (few : (k : ℕ) →
     tells-pair (variable k) u x y l =
         tells-variable k y (pairs t g (opened free (variable k)) x y) l (λ p. rw p (all-pairs t sound g x y l)) (λ p. rw p)
     tells-pair (fromRoot p) u x y l = tells-pair p u 0 y l
+    tells-pair (closure p) u x y l = path-fixed (closure p) (unused (inPath (closure p)) u) x y
 
     tells-holds : (e : NodeExpr) → UnsharedExpr e → (x : ℕ) → x < t .size → Tells (holds t g (openedExpr free e) x) (λ h. holds t h e x)
     tells-holds (exists p) u x l = tells-any (pairs t g (opened free p) x) (λ h. pairs t h p x) (λ y m. tells-pair p u x y m)
@@ -190,6 +191,7 @@ module _ (t : Tree) (sound : Sound t) (free : ℕ → Bool) (few : (k : ℕ) →
         (tells-holds e (u .0) x l) (tells-holds f (u .1) x l)
     tells-holds (is k) u x l =
         tells-variable k x (holds t g (openedExpr free (is k)) x) l (λ p. rw p (all-hold t g x l)) (λ p. rw p)
+    tells-holds (same p q) u x l = expr-fixed (same p q) (unused (inExpr (same p q)) u) x
 
   -- for the reader: the theorem, where only variables below 3 are free: a query has no others
   pub exact : (p : Path) → Unshared p → Exact t free g p

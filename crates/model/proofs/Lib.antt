@@ -1,11 +1,13 @@
 pub mod Booleans
 pub mod Lists
 pub mod Exists
+pub mod KindTests
 pub mod Bytes
 pub mod Copying
 pub mod Counts
 pub mod Refusals
 pub mod Axes
+pub mod Closure
 pub mod Meaning
 pub mod QueryTable
 pub mod Shaped

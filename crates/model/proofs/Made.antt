@@ -11,11 +11,12 @@ use lib.Dec.{ltb, eqb}
 use borrow.Author.Tests.{lt-ltb, le-ltb, eq-eqb, ne-eqb}
 use Rattle.model.specs.Sets.{any, bit}
 use Rattle.model.specs.Syntax.{Path, NodeExpr}
-use Rattle.model.specs.Syntax.Path.{step, compose, union, intersect, except, filter, variable, fromRoot}
-use Rattle.model.specs.Syntax.NodeExpr.{exists, negate, both, either, is}
+use Rattle.model.specs.Syntax.Path.{step, compose, union, intersect, except, filter, variable, fromRoot, closure}
+use Rattle.model.specs.Syntax.NodeExpr.{exists, negate, both, either, is, same}
 use Rattle.model.specs.QueryTable.{entriesOf, kind, left, lastOf}
 use Rattle.model.specs.Refusals.{reply, verdict}
-use Rattle.model.specs.Checks.{leftPath, leftExpr, rightPath, rightExpr, namesVariable, hasLeft, hasRight, badQueryLength, badKind, badField, badOperand, badSort, badEntry, uses, misused, badLast, queryChecks}
+use Rattle.model.specs.Kinds.{isPath, leftPath, leftExpr, rightPath, rightExpr, namesVariable, hasLeft, hasRight}
+use Rattle.model.specs.Checks.{badQueryLength, badKind, badField, badOperand, badSort, badEntry, uses, misused, badLast, queryChecks}
 use Rattle.model.specs.Encoding.{Term, pathTerm, exprTerm, size, encode, tableOf, columns, columnsOf}
 use Rattle.model.proofs.Booleans.{Seen, seen, no-yes, not-yes}
 use Rattle.model.proofs.Booleans.Seen.{yes!, no! }
@@ -35,6 +36,7 @@ unfoldable mutual
   ProperSteps (filter p e) = ProperSteps p × ProperStepsIn e
   ProperSteps (variable k) = Unit {0}
   ProperSteps (fromRoot p) = ProperSteps p
+  ProperSteps (closure p) = ProperSteps p
 
   -- of the paths in a node expression
   pub ProperStepsIn : NodeExpr → Type 0
@@ -43,6 +45,7 @@ unfoldable mutual
   ProperStepsIn (both e f) = ProperStepsIn e × ProperStepsIn f
   ProperStepsIn (either e f) = ProperStepsIn e × ProperStepsIn f
   ProperStepsIn (is k) = Unit {0}
+  ProperStepsIn (same p q) = ProperSteps p × ProperSteps q
 
 -- the kind of a term's last entry
 abbrev top : Term → ℕ
@@ -70,8 +73,8 @@ Sorted c (Term.binary k a b) = ((e l r : ℕ) → l < e → r < e → Good c e k
 
 -- a path's term ends in a path's kind, a node expression's in one of the others
 
-path-top : (p : Path) → ltb (top (pathTerm p)) 8 ≡ true
-unfolding pathTerm
+path-top : (p : Path) → isPath (top (pathTerm p)) ≡ true
+unfolding pathTerm isPath
 path-top (step a name) = refl
 path-top (compose p q) = refl
 path-top (union p q) = refl
@@ -80,21 +83,23 @@ path-top (except p q) = refl
 path-top (filter p e) = refl
 path-top (variable k) = refl
 path-top (fromRoot p) = refl
+path-top (closure p) = refl
 
-expr-top : (e : NodeExpr) → ltb (top (exprTerm e)) 8 ≡ false
-unfolding exprTerm
+expr-top : (e : NodeExpr) → isPath (top (exprTerm e)) ≡ false
+unfolding exprTerm isPath
 expr-top (exists p) = refl
 expr-top (negate e) = refl
 expr-top (both e f) = refl
 expr-top (either e f) = refl
 expr-top (is k) = refl
+expr-top (same p q) = refl
 
 -- what is asked of a kind with operands, apart from their places
 abbrev Operator : ℕ → ℕ → ℕ → ℕ → ℕ → Type 0
 Operator c k r x y =
-    (ltb 12 k ≡ false) × ((l : ℕ) → badField c (record { kind = k; left = l; right = r; tag = 0 }) ≡ false) × (badSort k x y ≡ false)
+    (ltb 14 k ≡ false) × ((l : ℕ) → badField c (record { kind = k; left = l; right = r; tag = 0 }) ≡ false) × (badSort k x y ≡ false)
 
-none : (c k l g : ℕ) → ltb 12 k ≡ false → badField c (record { kind = k; left = l; right = 0; tag = g }) ≡ false → ((x y : ℕ) → badSort k x y ≡ false) → Arity k false false → Sorted c (Term.leaf k l g)
+none : (c k l g : ℕ) → ltb 14 k ≡ false → badField c (record { kind = k; left = l; right = 0; tag = g }) ≡ false → ((x y : ℕ) → badSort k x y ≡ false) → Arity k false false → Sorted c (Term.leaf k l g)
 unfolding Sorted Good
 none c k l g a f o h = (λ e x y. (a, f, rw (h .0, h .1) refl, o x y), h)
 
@@ -118,6 +123,7 @@ mutual
   path-sorted c (filter p e) (u, v) m = two c 5 (pathTerm p) (exprTerm e) (λ r. (refl, λ l. refl, rw (path-top p, expr-top e) refl)) (refl, refl) (path-sorted c p u (omega arith)) (expr-sorted c e v (omega arith))
   path-sorted c (variable k) u m = none c 6 k 0 refl (rw (lt-ltb k c m) refl) (λ x y. refl) (refl, refl)
   path-sorted c (fromRoot p) u m = one c 7 (pathTerm p) (λ y. (refl, λ l. refl, rw (path-top p) refl)) (refl, refl) (path-sorted c p u m)
+  path-sorted c (closure p) u m = one c 13 (pathTerm p) (λ y. (refl, λ l. refl, rw (path-top p) refl)) (refl, refl) (path-sorted c p u m)
 
   expr-sorted : (c : ℕ) (e : NodeExpr) → ProperStepsIn e → columns (exprTerm e) ≤ c → Sorted c (exprTerm e)
   expr-sorted c (exists p) u m = one c 8 (pathTerm p) (λ y. (refl, λ l. refl, rw (path-top p) refl)) (refl, refl) (path-sorted c p u m)
@@ -125,6 +131,7 @@ mutual
   expr-sorted c (both e f) (u, v) m = two c 10 (exprTerm e) (exprTerm f) (λ r. (refl, λ l. refl, rw (expr-top e, expr-top f) refl)) (refl, refl) (expr-sorted c e u (omega arith)) (expr-sorted c f v (omega arith))
   expr-sorted c (either e f) (u, v) m = two c 11 (exprTerm e) (exprTerm f) (λ r. (refl, λ l. refl, rw (expr-top e, expr-top f) refl)) (refl, refl) (expr-sorted c e u (omega arith)) (expr-sorted c f v (omega arith))
   expr-sorted c (is k) u m = none c 12 k 0 refl (rw (lt-ltb k c m) refl) (λ x y. refl) (refl, refl)
+  expr-sorted c (same p q) (u, v) m = two c 14 (pathTerm p) (pathTerm q) (λ r. (refl, λ l. refl, rw (path-top p, path-top q) refl)) (refl, refl) (path-sorted c p u (omega arith)) (path-sorted c q v (omega arith))
 
 none-any : (n : ℕ) (f : ℕ → Bool) → ((x : ℕ) → x < n → f x ≡ false) → any n f ≡ false
 none-any n f h = not-yes (any n f) (λ p. let (x, l, q) = any-elim n f p in no-yes (h x l) q)
@@ -232,12 +239,12 @@ module _ (a : Term) (least c : ℕ) (s : Sorted c a) where
       let u : uses (encode 0 a) i (entriesOf (encode 0 a)) ≡ uses (encode 0 a) i (0 + size a) = ap (uses (encode 0 a) i) (let e : entriesOf (encode 0 a) ≡ 0 + size a = omega arith in e) in
       rw (eq-eqb (uses (encode 0 a) i (entriesOf (encode 0 a))) 1 (omega (arith, once (encode 0 a) i c a 0 s (table-stands a), hits-one i (size a) (omega arith)))) refl)
 
-  last-good : ltb (top a) 8 ≡ true → badLast (encode 0 a) ≡ false
+  last-good : isPath (top a) ≡ true → badLast (encode 0 a) ≡ false
   last-good h =
       let e : kind (encode 0 a) (lastOf (encode 0 a)) ≡ top a = ap (kind (encode 0 a)) (let e : lastOf (encode 0 a) ≡ 0 + size a - 1 = omega (arith, entries-table a) in e) ∙ last-kind (encode 0 a) a 0 (table-stands a) in
       rw (e, h) refl
 
-  checks-pass : least ≤ c → c ≤ 3 → size a ≤ 64 → ltb (top a) 8 ≡ true → Passes (queryChecks (encode 0 a) least c)
+  checks-pass : least ≤ c → c ≤ 3 → size a ≤ 64 → isPath (top a) ≡ true → Passes (queryChecks (encode 0 a) least c)
   unfolding Passes queryChecks Clean
   checks-pass l m z h =
       let (k, f, o, b) = entries-clean in

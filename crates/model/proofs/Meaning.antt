@@ -2,16 +2,18 @@
 use Prim.Native.Nat.{ℕ, _<_}
 use mathlib.Core.Path.{_≡_}
 use mathlib.Core.Logic.{_⊎_, _↔_, Iff·rfl}
-use mathlib.Core.Bool.{true, false, not, _&&_, _||_}
+use mathlib.Core.Bool.{Bool, true, false, not, _&&_, _||_}
 use lib.Dec.{eqb}
+use Rattle.model.specs.Sets.{closed}
 use Rattle.model.specs.Tree.{Tree}
 use Rattle.model.specs.Axes.{isDocument, axis, passes, steps}
 use Rattle.model.specs.Syntax.{Path, NodeExpr}
-use Rattle.model.specs.Syntax.Path.{step, compose, union, intersect, except, filter, variable, fromRoot}
-use Rattle.model.specs.Syntax.NodeExpr.{exists, negate, both, either, is}
+use Rattle.model.specs.Syntax.Path.{step, compose, union, intersect, except, filter, variable, fromRoot, closure}
+use Rattle.model.specs.Syntax.NodeExpr.{exists, negate, both, either, is, same}
 use Rattle.model.specs.Meaning.{pairsOver, pairs, holds}
 use Rattle.model.proofs.Booleans.{and-says, or-says, not-says, eqb-says}
 use Rattle.model.proofs.Exists.{any-iff, any-both}
+use Rattle.model.proofs.Closure.{closed-refl, closed-step, closed-trans, closed-least}
 
 module _ (t : Tree) (g : ℕ → ℕ) (x y : ℕ) where
   -- 0: y is on the axis from x and passes the test; 65534 is node(), 65535 the star, which a document node does not pass
@@ -60,6 +62,16 @@ module _ (t : Tree) (g : ℕ → ℕ) (x y : ℕ) where
   unfolding pairsOver
   root-pair p = Iff·rfl
 
+  -- 13: in every relation that is reflexive, holds the path, and is transitive among the nodes: in the least of them
+  pub closure-pair : (p : Path) → (pairs t g (closure p) x y ≡ true)
+      ↔ ((S : ℕ → ℕ → Bool) → ((u : ℕ) → S u u ≡ true) → ((u v : ℕ) → pairs t g p u v ≡ true → S u v ≡ true)
+      → ((u z v : ℕ) → z < t .size → S u z ≡ true → S z v ≡ true → S u v ≡ true) → S x y ≡ true)
+  unfolding pairsOver
+  closure-pair p = (
+    λ h S r c j. closed-least (pairs t g p) (λ u v. S u v ≡ true) r c (t .size) j x y h,
+    λ f. f (closed (t .size) (pairs t g p)) (closed-refl (pairs t g p) (t .size)) (closed-step (pairs t g p) (t .size)) (closed-trans (pairs t g p) (t .size)),
+  )
+
   -- 8: x has at least one y
   pub exists-at : (p : Path) → (holds t g (exists p) x ≡ true) ↔ ((z : ℕ) × (z < t .size) × (pairs t g p x z ≡ true))
   unfolding pairsOver
@@ -84,3 +96,8 @@ module _ (t : Tree) (g : ℕ → ℕ) (x y : ℕ) where
   pub is-at : (k : ℕ) → (holds t g (is k) x ≡ true) ↔ (x ≡ g k)
   unfolding pairsOver
   is-at k = eqb-says x (g k)
+
+  -- 14: there is a node that both paths reach from x
+  pub same-at : (p q : Path) → (holds t g (same p q) x ≡ true) ↔ ((z : ℕ) × (z < t .size) × (pairs t g p x z ≡ true) × (pairs t g q x z ≡ true))
+  unfolding pairsOver
+  same-at p q = any-both (t .size) (λ z. pairs t g p x z) (λ z. pairs t g q x z)

@@ -7,8 +7,8 @@ use mathlib.Core.Logic.{⊎-elim}
 use mathlib.Core.List.{List, [], _∷_}
 use lib.ListN.{length, getD, length-append, List·getD-append}
 use lib.Seq.{getD-at}
-use Rattle.model.specs.Syntax.Path.{step, compose, union, intersect, except, filter, variable, fromRoot}
-use Rattle.model.specs.Syntax.NodeExpr.{exists, negate, both, either, is}
+use Rattle.model.specs.Syntax.Path.{step, compose, union, intersect, except, filter, variable, fromRoot, closure}
+use Rattle.model.specs.Syntax.NodeExpr.{exists, negate, both, either, is, same}
 use Rattle.model.specs.QueryTable.{Parsed, kind, left, right, tag, ofExpr, parse, parseOver, grow, parsed, parsedAt, pathAt, exprAt}
 
 module _ (q : List ℕ) where
@@ -93,3 +93,11 @@ module _ (q : List ℕ) where
     pub at-is : kind q e ≡ 12 → exprAt q e ≡ is (left q e)
     unfolding parse
     at-is h = ap (λ (w : Parsed). w .expr) (none 12 e h)
+
+    pub at-closure : kind q e ≡ 13 → left q e < e → pathAt q e ≡ closure (pathAt q (left q e))
+    unfolding parse
+    at-closure h l = ap (λ (w : Parsed). w .path) (one 13 e h l)
+
+    pub at-same : kind q e ≡ 14 → left q e < e → right q e < e → exprAt q e ≡ same (pathAt q (left q e)) (pathAt q (right q e))
+    unfolding parse
+    at-same h l r = ap (λ (w : Parsed). w .expr) (two 14 e h l r)

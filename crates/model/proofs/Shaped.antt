@@ -4,23 +4,23 @@ use native.Mathlib.Nat.{eq-or-lt-of-le}
 use native.Mathlib.Omega.{arith}
 use mathlib.Core.Path.{_≡_, refl}
 use mathlib.Core.Logic.{⊎-elim}
-use mathlib.Core.Bool.{true}
+use mathlib.Core.Bool.{Bool, true, false}
 use mathlib.Core.List.{List}
-use Rattle.model.specs.Syntax.Path.{step, compose, union, intersect, except, filter, variable, fromRoot}
-use Rattle.model.specs.Syntax.NodeExpr.{exists, negate, both, either, is}
+use Rattle.model.specs.Syntax.Path.{step, compose, union, intersect, except, filter, variable, fromRoot, closure}
+use Rattle.model.specs.Syntax.NodeExpr.{exists, negate, both, either, is, same}
 use Rattle.model.specs.QueryTable.{entriesOf, kind, left, right, tag, pathAt, exprAt}
-use Rattle.model.specs.Checks.{leftPath, leftExpr, rightPath, rightExpr, hasLeft, hasRight}
+use Rattle.model.specs.Kinds.{isPath, leftPath, leftExpr, rightPath, rightExpr, hasLeft, hasRight}
 use Rattle.model.specs.Accepted.{Shaped}
-use Rattle.model.proofs.Booleans.{or-cases}
-use Rattle.model.proofs.QueryTable.{at-step, at-compose, at-union, at-intersect, at-except, at-filter, at-variable, at-root, at-exists, at-negate, at-both, at-either, at-is}
+use Rattle.model.proofs.Booleans.{no-yes, or-cases}
+use Rattle.model.proofs.QueryTable.{at-step, at-compose, at-union, at-intersect, at-except, at-filter, at-variable, at-root, at-exists, at-negate, at-both, at-either, at-is, at-closure, at-same}
 
 -- entry l comes before entry e and is a path
 abbrev pub PathBefore : List ℕ → ℕ → ℕ → Type 0
-PathBefore q e l = (l < e) × (kind q l < 8)
+PathBefore q e l = (l < e) × (isPath (kind q l) ≡ true)
 
 -- the same with a node expression
 abbrev pub ExprBefore : List ℕ → ℕ → ℕ → Type 0
-ExprBefore q e l = (l < e) × (8 ≤ kind q l)
+ExprBefore q e l = (l < e) × (isPath (kind q l) ≡ false)
 
 -- entry e by its kind: where its operands stand, and what it is read as
 pub data Read (q : List ℕ) (e : ℕ) : Type 0 where
@@ -37,28 +37,34 @@ pub data Read (q : List ℕ) (e : ℕ) : Type 0 where
   both! : kind q e ≡ 10 → ExprBefore q e (left q e) → ExprBefore q e (right q e) → exprAt q e ≡ both (exprAt q (left q e)) (exprAt q (right q e)) → Read q e
   either! : kind q e ≡ 11 → ExprBefore q e (left q e) → ExprBefore q e (right q e) → exprAt q e ≡ either (exprAt q (left q e)) (exprAt q (right q e)) → Read q e
   is! : kind q e ≡ 12 → exprAt q e ≡ is (left q e) → Read q e
+  closure! : kind q e ≡ 13 → PathBefore q e (left q e) → pathAt q e ≡ closure (pathAt q (left q e)) → Read q e
+  same! : kind q e ≡ 14 → PathBefore q e (left q e) → PathBefore q e (right q e) → exprAt q e ≡ same (pathAt q (left q e)) (pathAt q (right q e)) → Read q e
+
+-- the sort of an entry of a known kind
+pub sort-of : (q : List ℕ) (e : ℕ) {k : ℕ} {b : Bool} → isPath k ≡ b → kind q e ≡ k → isPath (kind q e) ≡ b
+sort-of q e p h = rw h p
 
 module _ (q : List ℕ) (ok : Shaped q) (e : ℕ) (within : e < entriesOf q) where
   -- operands come before their entry
 
   pub left-lower : hasLeft (kind q e) ≡ true → left q e < e
-  left-lower c = ⊎-elim (λ d. ok .left-path e within d .0) (λ d. ok .left-expr e within d .0) (or-cases (leftPath (kind q e)) (leftExpr (kind q e)) c)
+  left-lower c = ⊎-elim (λ d. ok .formed .left-path e within d .0) (λ d. ok .formed .left-expr e within d .0) (or-cases (leftPath (kind q e)) (leftExpr (kind q e)) c)
 
   pub right-lower : hasRight (kind q e) ≡ true → right q e < e
-  right-lower c = ⊎-elim (λ d. ok .right-path e within d .0) (λ d. ok .right-expr e within d .0) (or-cases (rightPath (kind q e)) (rightExpr (kind q e)) c)
+  right-lower c = ⊎-elim (λ d. ok .formed .right-path e within d .0) (λ d. ok .formed .right-expr e within d .0) (or-cases (rightPath (kind q e)) (rightExpr (kind q e)) c)
 
   module _ (k : ℕ) (h : kind q e ≡ k) where
     path-left : leftPath k ≡ true → PathBefore q e (left q e)
-    path-left c = ok .left-path e within (rw h c)
+    path-left c = ok .formed .left-path e within (rw h c)
 
     expr-left : leftExpr k ≡ true → ExprBefore q e (left q e)
-    expr-left c = ok .left-expr e within (rw h c)
+    expr-left c = ok .formed .left-expr e within (rw h c)
 
     path-right : rightPath k ≡ true → PathBefore q e (right q e)
-    path-right c = ok .right-path e within (rw h c)
+    path-right c = ok .formed .right-path e within (rw h c)
 
     expr-right : rightExpr k ≡ true → ExprBefore q e (right q e)
-    expr-right c = ok .right-expr e within (rw h c)
+    expr-right c = ok .formed .right-expr e within (rw h c)
 
   -- the highest kind that is left, or a lower one
   top : (k : ℕ) → (kind q e ≡ suc k → Read q e) → (kind q e ≤ k → Read q e) → kind q e ≤ suc k → Read q e
@@ -67,7 +73,9 @@ module _ (q : List ℕ) (ok : Shaped q) (e : ℕ) (within : e < entriesOf q) whe
   pub read : Read q e
   unfolding leftPath leftExpr rightPath rightExpr
   read =
-      top 11 (λ h. is! h (at-is q e h))
+      top 13 (λ h. let l = path-left 14 h refl in let r = path-right 14 h refl in same! h l r (at-same q e h (l .0) (r .0)))
+      (top 12 (λ h. let l = path-left 13 h refl in closure! h l (at-closure q e h (l .0)))
+      (top 11 (λ h. is! h (at-is q e h))
       (top 10 (λ h. let l = expr-left 11 h refl in let r = expr-right 11 h refl in either! h l r (at-either q e h (l .0) (r .0)))
       (top 9 (λ h. let l = expr-left 10 h refl in let r = expr-right 10 h refl in both! h l r (at-both q e h (l .0) (r .0)))
       (top 8 (λ h. let l = expr-left 9 h refl in negate! h l (at-negate q e h (l .0)))
@@ -79,18 +87,18 @@ module _ (q : List ℕ) (ok : Shaped q) (e : ℕ) (within : e < entriesOf q) whe
       (top 2 (λ h. let l = path-left 3 h refl in let r = path-right 3 h refl in intersect! h l r (at-intersect q e h (l .0) (r .0)))
       (top 1 (λ h. let l = path-left 2 h refl in let r = path-right 2 h refl in union! h l r (at-union q e h (l .0) (r .0)))
       (top 0 (λ h. let l = path-left 1 h refl in let r = path-right 1 h refl in compose! h l r (at-compose q e h (l .0) (r .0)))
-      (λ m. let h : kind q e ≡ 0 = omega arith in step! h (at-step q e h))))))))))))) (ok .known e within)
+      (λ m. let h : kind q e ≡ 0 = omega arith in step! h (at-step q e h))))))))))))))) (ok .formed .known e within)
 
 -- something said of the entries that are paths, and something of those that are node expressions
 module _ (q : List ℕ) (P E : ℕ → Type 0) where
   abbrev pub BySort : ℕ → Type 0
-  BySort e = (kind q e < 8 → P e) × (8 ≤ kind q e → E e)
+  BySort e = (isPath (kind q e) ≡ true → P e) × (isPath (kind q e) ≡ false → E e)
 
-  pub as-path : (e : ℕ) → kind q e < 8 → P e → BySort e
-  as-path e h p = (λ l. p, λ l. absurd (omega arith))
+  pub as-path : (e : ℕ) → isPath (kind q e) ≡ true → P e → BySort e
+  as-path e h p = (λ l. p, λ l. no-yes l h)
 
-  pub as-expr : (e : ℕ) → 8 ≤ kind q e → E e → BySort e
-  as-expr e h p = (λ l. absurd (omega arith), λ l. p)
+  pub as-expr : (e : ℕ) → isPath (kind q e) ≡ false → E e → BySort e
+  as-expr e h p = (λ l. no-yes h l, λ l. p)
 
   -- induction: it holds of an entry where it holds of the entries before
   module _ (ok : Shaped q) (turn : (e : ℕ) → e < entriesOf q → ((x : ℕ) → PathBefore q e x → P x) → ((x : ℕ) → ExprBefore q e x → E x) → Read q e → BySort e) where

@@ -1,28 +1,31 @@
--- Where no document node is stored and no step has the test node(), services reply as before; and where no document node is stored, every
--- path has the pairs that it had with the star for node().
-use Prim.Native.Nat.{ℕ, zero, suc}
+-- Where no document node is stored, no step has the test node() and no entry is a star or `same`, services reply as before; and where no
+-- document node is stored, every path has the pairs that it had with the star for node().
+use Prim.Native.Nat.{ℕ, zero, suc, _<_}
+use native.Mathlib.Nat.{eq-or-lt-of-le}
+use native.Mathlib.Omega.{arith}
 use mathlib.Core.Path.{_≡_, refl, sym, ap, _∙_, fun-ext}
+use mathlib.Core.Logic.{⊎-elim}
 use mathlib.Core.Bool.{Bool, true, false, _&&_, _||_, cond, or-comm}
 use mathlib.Core.List.{List, [], _∷_, _++_}
 use lib.Dec.{ltb, eqb}
 use lib.ListN.{getD}
-use borrow.Author.Tests.{ne-eqb, eqb-true}
+use borrow.Author.Tests.{ne-eqb, eqb-true, lt-ltb, ltb-true}
 use Rattle.model.specs.Sets.{turn}
 use Rattle.model.specs.Tree.{Tree, sizeOf, treeOf}
 use Rattle.model.specs.Axes.{axis, passes, steps}
 use Rattle.model.specs.Syntax.{Path, NodeExpr}
-use Rattle.model.specs.Syntax.Path.{step, compose, union, intersect, except, filter, variable, fromRoot}
-use Rattle.model.specs.Syntax.NodeExpr.{exists, negate, both, either, is}
+use Rattle.model.specs.Syntax.Path.{step, compose, union, intersect, except, filter, variable, fromRoot, closure}
+use Rattle.model.specs.Syntax.NodeExpr.{exists, negate, both, either, is, same}
 use Rattle.model.specs.Meaning.{pairsOver, holdsOver}
 use Rattle.model.specs.QueryTable.{Parsed, ofExpr, kind, left, tag, entry, entriesOf, parse, parseOver, grow, parsed, parsedAt, pathAt, lastOf}
 use Rattle.model.specs.Results.{assigned, related, imageBytes, pairsBytes}
 use Rattle.model.specs.Answers.{satisfied, answers}
 use Rattle.model.specs.Refusals.{refuseAt}
-use Rattle.model.specs.Checks.{badTag, badField, badEntry, treeChecksAt, treeChecks, queryChecks, tableChecks, imageChecks, pairsChecks, pageChecks}
+use Rattle.model.specs.Checks.{badTag, badKind, badField, badEntry, treeChecksAt, treeChecks, queryChecks, tableChecks, imageChecks, pairsChecks, pageChecks}
 use Rattle.model.specs.Services.{pageOutcome}
 use Rattle.model.specs.Encoding.{Term, pathTerm, exprTerm, size, tableOf, columns, columnsOf}
-use Rattle.model.specs.Before.{passesBefore, stepsBefore, badTagBefore, badFieldBefore, instead, inputsOf, inputsBefore, repliesOf, repliesOver, NoDocument, NoNodeTest}
-use Rattle.model.proofs.Booleans.{Seen, seen}
+use Rattle.model.specs.Before.{passesBefore, stepsBefore, badTagBefore, badKindBefore, badFieldBefore, instead, inputsOf, inputsBefore, repliesOf, repliesOver, NoDocument, NoNodeTest, OldKinds}
+use Rattle.model.proofs.Booleans.{Seen, seen, bool-ext}
 use Rattle.model.proofs.Booleans.Seen.{yes!, no! }
 use Rattle.model.proofs.Encoding.{table-back}
 
@@ -41,6 +44,7 @@ unfoldable mutual
   starred (filter p e) = filter (starred p) (starredIn e)
   starred (variable k) = variable k
   starred (fromRoot p) = fromRoot (starred p)
+  starred (closure p) = closure (starred p)
 
   pub starredIn : NodeExpr → NodeExpr
   starredIn (exists p) = exists (starred p)
@@ -48,6 +52,7 @@ unfoldable mutual
   starredIn (both e f) = both (starredIn e) (starredIn f)
   starredIn (either e f) = either (starredIn e) (starredIn f)
   starredIn (is k) = is k
+  starredIn (same p q) = same (starred p) (starred q)
 
 -- they have as many entries and variables
 
@@ -68,6 +73,7 @@ mutual
   path-retagged (filter p e) = rw (path-retagged p, expr-retagged e)
   path-retagged (variable k) = refl
   path-retagged (fromRoot p) = rw (path-retagged p)
+  path-retagged (closure p) = rw (path-retagged p)
 
   expr-retagged : (e : NodeExpr) → exprTerm (starredIn e) ≡ retagged (exprTerm e)
   expr-retagged (exists p) = rw (path-retagged p)
@@ -75,6 +81,7 @@ mutual
   expr-retagged (both e f) = rw (expr-retagged e, expr-retagged f)
   expr-retagged (either e f) = rw (expr-retagged e, expr-retagged f)
   expr-retagged (is k) = refl
+  expr-retagged (same p q) = rw (path-retagged p, path-retagged q)
 
 retagged-size : (a : Term) → size (retagged a) ≡ size a
 unfolding size
@@ -140,6 +147,7 @@ module _ (t : Tree) (h : NoDocument t) where
       pairs-starred (filter p e) = fun-ext (λ x. fun-ext (λ y. rw (pairs-starred p, holds-starred e)))
       pairs-starred (variable k) = refl
       pairs-starred (fromRoot p) = fun-ext (λ x. fun-ext (λ y. rw (pairs-starred p)))
+      pairs-starred (closure p) = fun-ext (λ x. fun-ext (λ y. rw (pairs-starred p)))
 
       holds-starred : (e : NodeExpr) → oldAt (starredIn e) ≡ newAt e
       holds-starred (exists p) = fun-ext (λ x. rw (pairs-starred p))
@@ -147,6 +155,7 @@ module _ (t : Tree) (h : NoDocument t) where
       holds-starred (both e f) = fun-ext (λ x. rw (holds-starred e, holds-starred f))
       holds-starred (either e f) = fun-ext (λ x. rw (holds-starred e, holds-starred f))
       holds-starred (is k) = refl
+      holds-starred (same p q) = fun-ext (λ x. rw (pairs-starred p, pairs-starred q))
 
 -- a query without the test node() is read as a path that the star changes nothing in
 
@@ -172,7 +181,9 @@ plain-parse (suc (suc (suc (suc (suc (suc (suc (suc (suc zero))))))))) l name a 
 plain-parse (suc (suc (suc (suc (suc (suc (suc (suc (suc (suc zero)))))))))) l name a b h u v = (refl, rw (u .1, v .1) refl)
 plain-parse (suc (suc (suc (suc (suc (suc (suc (suc (suc (suc (suc zero))))))))))) l name a b h u v = (refl, rw (u .1, v .1) refl)
 plain-parse (suc (suc (suc (suc (suc (suc (suc (suc (suc (suc (suc (suc zero)))))))))))) l name a b h u v = (refl, refl)
-plain-parse (suc (suc (suc (suc (suc (suc (suc (suc (suc (suc (suc (suc (suc k))))))))))))) l name a b h u v = (refl, refl)
+plain-parse (suc (suc (suc (suc (suc (suc (suc (suc (suc (suc (suc (suc (suc zero))))))))))))) l name a b h u v = (rw (u .0) refl, refl)
+plain-parse (suc (suc (suc (suc (suc (suc (suc (suc (suc (suc (suc (suc (suc (suc zero)))))))))))))) l name a b h u v = (refl, rw (u .0, v .0) refl)
+plain-parse (suc (suc (suc (suc (suc (suc (suc (suc (suc (suc (suc (suc (suc (suc (suc k))))))))))))))) l name a b h u v = (refl, refl)
 
 module _ (q : List ℕ) (h : NoNodeTest q) where
   abbrev AllPlain : List Parsed → Type 0
@@ -214,6 +225,14 @@ fields-same q h columns e = go (seen (eqb (kind q e) 0))
     go (yes! p) = rw (p, ne-eqb (tag q e) 65534 (h e (eqb-true (kind q e) 0 p)), or-comm (ltb 12 (left q e)) false) refl
     go (no! p) = rw p refl
 
+kinds-same : (q : List ℕ) → OldKinds q → (e : ℕ) → badKindBefore (entry q e) ≡ badKind (entry q e)
+kinds-same q h e = bool-ext (ltb 12 (kind q e)) (ltb 14 (kind q e))
+    (λ p. lt-ltb 14 (kind q e) (above (ltb-true 12 (kind q e) p)))
+    (λ p. lt-ltb 12 (kind q e) (let m : 14 < kind q e = ltb-true 14 (kind q e) p in omega arith))
+  where
+    above : 12 < kind q e → 14 < kind q e
+    above m = ⊎-elim (λ p. absurd (h e .0 (sym p))) (λ m. ⊎-elim (λ p. absurd (h e .1 (sym p))) (λ m. m) (eq-or-lt-of-le m)) (eq-or-lt-of-le m)
+
 -- what the text of specs/Before.antt says of services, over what they take from their tables today, is what their definitions say
 pub published : (t q : List ℕ) → repliesOver (inputsOf t q) ≡ repliesOf t q
 unfolding pageOutcome imageChecks pairsChecks pageChecks tableChecks imageBytes pairsBytes answers satisfied
@@ -224,12 +243,15 @@ module _ (t q : List ℕ) (h : NoDocument (treeOf t)) where
   unfolding treeChecksAt instead
   tree-same = rw (tags-same (treeOf t) h) refl
 
-  module _ (k : NoNodeTest q) where
-    query-same : (least columns : ℕ) → instead (refuseAt 11 (entriesOf q) (λ e. badFieldBefore columns (entry q e))) (queryChecks q least columns) ≡ queryChecks q least columns
+  module _ (k : NoNodeTest q) (o : OldKinds q) where
+    query-same : (least columns : ℕ)
+        → instead (refuseAt 10 (entriesOf q) (λ e. badKindBefore (entry q e))) (instead (refuseAt 11 (entriesOf q) (λ e. badFieldBefore columns (entry q e))) (queryChecks q least columns))
+        ≡ queryChecks q least columns
     unfolding queryChecks instead
     query-same least columns =
+        let c : (λ e. badKindBefore (entry q e)) ≡ badEntry q columns 10 = fun-ext (λ e. unfold badEntry in kinds-same q o e) in
         let e : (λ e. badFieldBefore columns (entry q e)) ≡ badEntry q columns 11 = fun-ext (λ e. unfold badEntry in fields-same q k columns e) in
-        rw e refl
+        rw (c, e) refl
 
     relation-same : (nodes : List ℕ) (back : Bool) → turn back (pairsOver (sizeOf t) (stepsBefore (treeOf t)) (assigned nodes) (pathAt q (lastOf q))) ≡ related t q nodes (lastOf q) back
     unfolding related
@@ -245,8 +267,8 @@ module _ (t q : List ℕ) (h : NoDocument (treeOf t)) where
       relation = λ nodes back. relation-same nodes back i;
     }
 
-    -- for the reader: on a tree without a document node, and for a query without the test node(), every service that is lent a query
-    -- replies, and leaves what it is lent, as before
+    -- for the reader: on a tree without a document node, and for a query without the test node(), star and `same`, every service that is
+    -- lent a query replies, and leaves what it is lent, as before
     pub replies-as-before : repliesOver (inputsBefore t q) ≡ repliesOf t q
     replies-as-before = ap repliesOver inputs-same ∙ published t q
 

@@ -8,7 +8,8 @@ use Rattle.model.specs.Tree.{Tree, sizeOf}
 use Rattle.model.specs.Axes.{isDocument, descendantOrSelf}
 use Rattle.model.specs.QueryTable.{entriesOf, kind, left, right}
 use Rattle.model.specs.Refusals.{verdict}
-use Rattle.model.specs.Checks.{treeChecks, leftPath, leftExpr, rightPath, rightExpr, namesVariable}
+use Rattle.model.specs.Kinds.{isPath, leftPath, leftExpr, rightPath, rightExpr, namesVariable}
+use Rattle.model.specs.Checks.{treeChecks}
 
 -- a tree table that its checks accept: what the services ask for that run on the tree that a party sees
 abbrev pub AcceptedTree : List ℕ → Type 0
@@ -35,23 +36,22 @@ pub record Ordered (t : Tree) : Type 0 where
   pub rule : (y : ℕ) → suc y < t .size → descendantOrSelf t (t .parent (suc y)) y ≡ true
   pub document : (y : ℕ) → 0 < y → y < t .size → isDocument t y ≡ false
 
--- a query table of known kinds whose operands come before their entry and are of the sort that is due: of what the checks secure,
--- the part that speaks of the query alone
+-- a query table of known kinds whose operands come before their entry and are of the sort that is due
+pub record Formed (q : List ℕ) : Type 0 where
+  pub known : (e : ℕ) → e < entriesOf q → kind q e ≤ 14
+  pub left-path : (e : ℕ) → e < entriesOf q → leftPath (kind q e) ≡ true → (left q e < e) × (isPath (kind q (left q e)) ≡ true)
+  pub left-expr : (e : ℕ) → e < entriesOf q → leftExpr (kind q e) ≡ true → (left q e < e) × (isPath (kind q (left q e)) ≡ false)
+  pub right-path : (e : ℕ) → e < entriesOf q → rightPath (kind q e) ≡ true → (right q e < e) × (isPath (kind q (right q e)) ≡ true)
+  pub right-expr : (e : ℕ) → e < entriesOf q → rightExpr (kind q e) ≡ true → (right q e < e) × (isPath (kind q (right q e)) ≡ false)
+
+-- of what the checks secure, the part that speaks of the query alone
 pub record Shaped (q : List ℕ) : Type 0 where
   pub few : entriesOf q ≤ 64
-  pub known : (e : ℕ) → e < entriesOf q → kind q e ≤ 12
-  pub left-path : (e : ℕ) → e < entriesOf q → leftPath (kind q e) ≡ true → (left q e < e) × (kind q (left q e) < 8)
-  pub left-expr : (e : ℕ) → e < entriesOf q → leftExpr (kind q e) ≡ true → (left q e < e) × (8 ≤ kind q (left q e))
-  pub right-path : (e : ℕ) → e < entriesOf q → rightPath (kind q e) ≡ true → (right q e < e) × (kind q (right q e) < 8)
-  pub right-expr : (e : ℕ) → e < entriesOf q → rightExpr (kind q e) ≡ true → (right q e < e) × (8 ≤ kind q (right q e))
+  pub formed : Formed q
 
 -- a query table whose entries can be evaluated under an assignment to nodes of a tree
 pub record Evaluable (t q nodes : List ℕ) : Type 0 where
-  pub known : (e : ℕ) → e < entriesOf q → kind q e ≤ 12
+  pub formed : Formed q
   pub axis : (e : ℕ) → e < entriesOf q → kind q e ≡ 0 → left q e ≤ 12
-  pub left-path : (e : ℕ) → e < entriesOf q → leftPath (kind q e) ≡ true → (left q e < e) × (kind q (left q e) < 8)
-  pub left-expr : (e : ℕ) → e < entriesOf q → leftExpr (kind q e) ≡ true → (left q e < e) × (8 ≤ kind q (left q e))
-  pub right-path : (e : ℕ) → e < entriesOf q → rightPath (kind q e) ≡ true → (right q e < e) × (kind q (right q e) < 8)
-  pub right-expr : (e : ℕ) → e < entriesOf q → rightExpr (kind q e) ≡ true → (right q e < e) × (8 ≤ kind q (right q e))
   pub variable : (e : ℕ) → e < entriesOf q → namesVariable (kind q e) ≡ true → left q e < length nodes
   pub node : (k : ℕ) → k < length nodes → getD nodes k 0 < sizeOf t

@@ -1,6 +1,6 @@
--- What services replied before a document node could be stored (document 02, §5), for one theorem alone: without such a node and without
--- the test node(), every service that is lent a query replies as before (proofs/Unchanged.antt: replies-as-before). What is said here of
--- services is the text of their definitions, over what they take from a tree and a query.
+-- What services replied before a document node could be stored (document 02, §5) and before the kinds star and `same` (§9), for one theorem
+-- alone: without such a node, the test node() and those kinds, every service that is lent a query replies as before (proofs/Unchanged.antt:
+-- replies-as-before). What is said here of services is the text of their definitions, over what they take from a tree and a query.
 use Prim.Native.Nat.{ℕ, _*_}
 use mathlib.Core.Path.{_≡_}
 use mathlib.Core.Bool.{Bool, false, _&&_, _||_, cond}
@@ -37,6 +37,10 @@ stepsBefore t a name x y = axis t a x y && passesBefore t name y
 abbrev pub badTagBefore : Tree → ℕ → Bool
 badTagBefore t x = ltb 65533 (t .tag x)
 
+-- 10: a kind above 12
+abbrev pub badKindBefore : Entry → Bool
+badKindBefore f = ltb 12 (f .kind)
+
 -- 11: an axis above 12, a step's tag 65534, a variable not below the count, or an unnamed field that is not 0
 abbrev pub badFieldBefore : ℕ → Entry → Bool
 badFieldBefore columns f =
@@ -68,7 +72,8 @@ inputsBefore t q =
       table = t;
       tree = instead (refuseAt 7 (sizeOf t) (badTagBefore (treeOf t))) (treeChecks t);
       query = λ least columns.
-          instead (refuseAt 11 (entriesOf q) (λ e. badFieldBefore columns (entry q e))) (queryChecks q least columns);
+          instead (refuseAt 10 (entriesOf q) (λ e. badKindBefore (entry q e)))
+          (instead (refuseAt 11 (entriesOf q) (λ e. badFieldBefore columns (entry q e))) (queryChecks q least columns));
       relation = λ nodes back. turn back (pairsOver (sizeOf t) (stepsBefore (treeOf t)) (assigned nodes) (pathAt q (lastOf q)));
     }
 
@@ -158,3 +163,7 @@ NoDocument t = (x : ℕ) → t .tag x ≡ 65534 → ⊥
 -- no step of the query has the test node()
 abbrev pub NoNodeTest : List ℕ → Type 0
 NoNodeTest q = (e : ℕ) → kind q e ≡ 0 → tag q e ≡ 65534 → ⊥
+
+-- no entry of the query is a star or `same`
+abbrev pub OldKinds : List ℕ → Type 0
+OldKinds q = (e : ℕ) → (kind q e ≡ 13 → ⊥) × (kind q e ≡ 14 → ⊥)

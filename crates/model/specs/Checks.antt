@@ -11,6 +11,7 @@ use Rattle.model.specs.Sets.{bit}
 use Rattle.model.specs.Tree.{Tree, sizeOf, treeAt}
 use Rattle.model.specs.Axes.{isDocument, descendantOrSelf}
 use Rattle.model.specs.QueryTable.{entriesOf, kind, left, right, entry, lastOf}
+use Rattle.model.specs.Kinds.{isPath, leftPath, leftExpr, rightPath, rightExpr, namesVariable, hasLeft, hasRight}
 use Rattle.model.specs.Pages.{rowOf, hasBegun}
 use Rattle.model.specs.Refusals.{Check, refuse, refuseHere, refuseAt}
 use Rattle.model.specs.Sharing.{sharingChecks}
@@ -43,34 +44,6 @@ treeChecks t = treeChecksAt 2 t
 
 -- The query table.
 
--- the left operand is a path: kinds 1 to 5, 7 and 8
-unfoldable pub leftPath : ℕ → Bool
-leftPath k = (ltb 0 k && ltb k 6) || (eqb k 7 || eqb k 8)
-
--- the left operand is a node expression: kinds 9 to 11
-unfoldable pub leftExpr : ℕ → Bool
-leftExpr k = ltb 8 k && ltb k 12
-
--- the right operand is a path: kinds 1 to 4
-unfoldable pub rightPath : ℕ → Bool
-rightPath k = ltb 0 k && ltb k 5
-
--- the right operand is a node expression: kinds 5, 10 and 11
-unfoldable pub rightExpr : ℕ → Bool
-rightExpr k = eqb k 5 || (eqb k 10 || eqb k 11)
-
--- left is the number of a variable: kinds 6 and 12
-unfoldable pub namesVariable : ℕ → Bool
-namesVariable k = eqb k 6 || eqb k 12
-
--- the kind has a left operand
-abbrev pub hasLeft : ℕ → Bool
-hasLeft k = leftPath k || leftExpr k
-
--- the kind has a right operand
-abbrev pub hasRight : ℕ → Bool
-hasRight k = rightPath k || rightExpr k
-
 -- 8: empty, no multiple of four, or longer than 256 numbers
 abbrev pub badQueryLength : ℕ → Bool
 badQueryLength l = eqb l 0 || (not (eqb (l % 4) 0) || ltb 256 l)
@@ -80,9 +53,9 @@ badQueryLength l = eqb l 0 || (not (eqb (l % 4) 0) || ltb 256 l)
 abbrev pub badVariableCount : ℕ → ℕ → Bool
 badVariableCount least columns = ltb columns least || ltb 3 columns
 
--- 10: a kind above 12
+-- 10: a kind above 14
 abbrev pub badKind : Entry → Bool
-badKind f = ltb 12 (f .kind)
+badKind f = ltb 14 (f .kind)
 
 -- of 11: an axis above 12; a step may have every tag (document 02, §5)
 abbrev pub badStep : Entry → Bool
@@ -107,8 +80,8 @@ badOperand e f = (hasLeft (f .kind) && not (ltb (f .left) e)) || (hasRight (f .k
 -- 13: with l and r the operands' kinds, a path stands where a node expression is due or the reverse
 abbrev pub badSort : ℕ → ℕ → ℕ → Bool
 badSort k l r =
-    ((leftPath k && not (ltb l 8)) || (leftExpr k && ltb l 8))
-    || ((rightPath k && not (ltb r 8)) || (rightExpr k && ltb r 8))
+    ((leftPath k && not (isPath l)) || (leftExpr k && isPath l))
+    || ((rightPath k && not (isPath r)) || (rightExpr k && isPath r))
 
 -- entry e fails check k, for the checks 10 to 13
 unfoldable pub badEntry : List ℕ → ℕ → ℕ → ℕ → Bool
@@ -136,7 +109,7 @@ misused q i = not (eqb (uses q i (entriesOf q)) 1)
 
 -- 15: the last entry is a node expression
 abbrev pub badLast : List ℕ → Bool
-badLast q = not (ltb (kind q (lastOf q)) 8)
+badLast q = not (isPath (kind q (lastOf q)))
 
 -- 14 and 15
 abbrev pub useChecks : List ℕ → List Check

@@ -3,9 +3,9 @@ use Prim.Native.Nat.{ℕ, suc, _+_, _-_, max}
 use mathlib.Core.Bool.{cond}
 use mathlib.Core.List.{List, [], _∷_, _++_}
 use Rattle.model.specs.Syntax.{Path, NodeExpr}
-use Rattle.model.specs.Syntax.Path.{step, compose, union, intersect, except, filter, variable, fromRoot}
-use Rattle.model.specs.Syntax.NodeExpr.{exists, negate, both, either, is}
-use Rattle.model.specs.Checks.{namesVariable}
+use Rattle.model.specs.Syntax.Path.{step, compose, union, intersect, except, filter, variable, fromRoot, closure}
+use Rattle.model.specs.Syntax.NodeExpr.{exists, negate, both, either, is, same}
+use Rattle.model.specs.Kinds.{namesVariable}
 
 -- a path or a node expression by the kinds of its entries: with no operand (kind, left, tag), with one, with two
 pub data Term : Type 0 where
@@ -23,6 +23,7 @@ unfoldable mutual
   pathTerm (filter p e) = Term.binary 5 (pathTerm p) (exprTerm e)
   pathTerm (variable k) = Term.leaf 6 k 0
   pathTerm (fromRoot p) = Term.unary 7 (pathTerm p)
+  pathTerm (closure p) = Term.unary 13 (pathTerm p)
 
   pub exprTerm : NodeExpr → Term
   exprTerm (exists p) = Term.unary 8 (pathTerm p)
@@ -30,6 +31,7 @@ unfoldable mutual
   exprTerm (both e f) = Term.binary 10 (exprTerm e) (exprTerm f)
   exprTerm (either e f) = Term.binary 11 (exprTerm e) (exprTerm f)
   exprTerm (is k) = Term.leaf 12 k 0
+  exprTerm (same p q) = Term.binary 14 (pathTerm p) (pathTerm q)
 
 -- how many entries it has
 unfoldable pub size : Term → ℕ

@@ -5,6 +5,7 @@ pub mod Axes
 pub mod Syntax
 pub mod Meaning
 pub mod QueryTable
+pub mod Kinds
 pub mod Results
 pub mod Answers
 pub mod Pages

@@ -3,12 +3,12 @@
 use Prim.Native.Nat.{ℕ}
 use mathlib.Core.Bool.{Bool, not, _&&_, _||_}
 use lib.Dec.{eqb}
-use Rattle.model.specs.Sets.{any}
+use Rattle.model.specs.Sets.{any, closed}
 use Rattle.model.specs.Tree.{Tree}
 use Rattle.model.specs.Axes.{steps}
 use Rattle.model.specs.Syntax.{Path, NodeExpr}
-use Rattle.model.specs.Syntax.Path.{step, compose, union, intersect, except, filter, variable, fromRoot}
-use Rattle.model.specs.Syntax.NodeExpr.{exists, negate, both, either, is}
+use Rattle.model.specs.Syntax.Path.{step, compose, union, intersect, except, filter, variable, fromRoot, closure}
+use Rattle.model.specs.Syntax.NodeExpr.{exists, negate, both, either, is, same}
 
 module _ (n : ℕ) (S : ℕ → ℕ → ℕ → ℕ → Bool) (g : ℕ → ℕ) where
   unfoldable mutual
@@ -22,6 +22,7 @@ module _ (n : ℕ) (S : ℕ → ℕ → ℕ → ℕ → Bool) (g : ℕ → ℕ) 
     pairsOver (filter p e) x y = pairsOver p x y && holdsOver e y
     pairsOver (variable k) x y = eqb y (g k)
     pairsOver (fromRoot p) x y = pairsOver p 0 y
+    pairsOver (closure p) x y = closed n (pairsOver p) x y
 
     -- the node expression holds at x
     pub holdsOver : NodeExpr → ℕ → Bool
@@ -30,6 +31,7 @@ module _ (n : ℕ) (S : ℕ → ℕ → ℕ → ℕ → Bool) (g : ℕ → ℕ) 
     holdsOver (both e f) x = holdsOver e x && holdsOver f x
     holdsOver (either e f) x = holdsOver e x || holdsOver f x
     holdsOver (is k) x = eqb x (g k)
+    holdsOver (same p q) x = any n (λ y. pairsOver p x y && pairsOver q x y)
 
 -- (x, y) is a pair of the path, over the tree t
 abbrev pub pairs : Tree → (ℕ → ℕ) → Path → ℕ → ℕ → Bool

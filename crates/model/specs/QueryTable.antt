@@ -4,8 +4,8 @@ use mathlib.Core.List.{List, [], _∷_, _++_}
 use lib.ListN.{length, getD}
 use Rattle.model.specs.declared.Entry.{Entry}
 use Rattle.model.specs.Syntax.{Path, NodeExpr}
-use Rattle.model.specs.Syntax.Path.{step, compose, union, intersect, except, filter, variable, fromRoot}
-use Rattle.model.specs.Syntax.NodeExpr.{exists, negate, both, either, is}
+use Rattle.model.specs.Syntax.Path.{step, compose, union, intersect, except, filter, variable, fromRoot, closure}
+use Rattle.model.specs.Syntax.NodeExpr.{exists, negate, both, either, is, same}
 
 -- the number of entries of a table
 abbrev pub entriesOf : List ℕ → ℕ
@@ -44,7 +44,7 @@ ofPath p = record { path = p; expr = is 0 }
 abbrev pub ofExpr : NodeExpr → Parsed
 ofExpr e = record { path = variable 0; expr = e }
 
--- an entry of kind k, from its fields and its operands a (left) and b (right), by the kinds 0 to 12; what stands for a higher
+-- an entry of kind k, from its fields and its operands a (left) and b (right), by the kinds 0 to 14; what stands for a higher
 -- kind is of no account, since refusal 10 turns it away
 unfoldable pub parse : ℕ → ℕ → ℕ → Parsed → Parsed → Parsed
 parse k l name a b =
@@ -62,6 +62,8 @@ parse k l name a b =
     ∷ ofExpr (both (a .expr) (b .expr))
     ∷ ofExpr (either (a .expr) (b .expr))
     ∷ ofExpr (is l)
+    ∷ ofPath (closure (a .path))
+    ∷ ofExpr (same (a .path) (b .path))
     ∷ [])
     k
     (ofExpr (is 0))

@@ -43,6 +43,10 @@ twice k = 6 ∷ 0 ∷ 0 ∷ 0 ∷ 6 ∷ 0 ∷ 0 ∷ 0 ∷ k ∷ 0 ∷ 1 ∷ 0 �
 unfoldable pub twiceAt : ℕ → List ℕ
 twiceAt k = 0 ∷ 1 ∷ 0 ∷ 3 ∷ 12 ∷ 0 ∷ 0 ∷ 0 ∷ 12 ∷ 0 ∷ 0 ∷ 0 ∷ k ∷ 1 ∷ 2 ∷ 0 ∷ 5 ∷ 0 ∷ 3 ∷ 0 ∷ []
 
+-- `child::3`, filtered by `child::k same $0`
+unfoldable pub sameAt : ℕ → List ℕ
+sameAt k = 0 ∷ 1 ∷ 0 ∷ 3 ∷ 0 ∷ 1 ∷ 0 ∷ k ∷ 6 ∷ 0 ∷ 0 ∷ 0 ∷ 14 ∷ 1 ∷ 2 ∷ 0 ∷ 5 ∷ 0 ∷ 3 ∷ 0 ∷ []
+
 -- the calls, in the order of their numbers
 unfoldable pub calls : List Judged
 calls =
@@ -50,6 +54,8 @@ calls =
     ∷ call (treeChecks (65535 ∷ 65534 ∷ 0 ∷ 65533 ∷ [])) 0 0
     ∷ call (queryChecks (0 ∷ 1 ∷ 0 ∷ 65534 ∷ []) 0 0) 0 0
     ∷ call (queryChecks (0 ∷ 1 ∷ 0 ∷ 3 ∷ roots 1 63) 0 0) 0 0
+    ∷ call (queryChecks (0 ∷ 1 ∷ 0 ∷ 3 ∷ 13 ∷ 0 ∷ 0 ∷ 0 ∷ []) 0 0) 0 0
+    ∷ call (queryChecks (sameAt 1) 0 1) 0 0
     ∷ call (quickChecks warehouse bayAndPallet 2 (begunAt 5 5) 2) 0 0
     ∷ call (quickChecks warehouse (twice 2) 1 fresh 1) 0 0
     ∷ call (quickChecks warehouse (twiceAt 11) 1 fresh 1) 0 0
@@ -68,13 +74,17 @@ calls =
     ∷ call (queryChecks (replicate (4 * 65) 0) 0 0) 8 0
     ∷ call (queryChecks childPallet 0 4) 9 0
     ∷ call (pageChecks warehouse childPallet 0 fresh 1) 9 0
-    ∷ call (queryChecks (13 ∷ 0 ∷ 0 ∷ 0 ∷ []) 0 0) 10 0
+    ∷ call (queryChecks (15 ∷ 0 ∷ 0 ∷ 0 ∷ []) 0 0) 10 0
     ∷ call (queryChecks (0 ∷ 13 ∷ 0 ∷ 3 ∷ []) 0 0) 11 0
     ∷ call (queryChecks (0 ∷ 1 ∷ 1 ∷ 3 ∷ []) 0 0) 11 0
     ∷ call (queryChecks (6 ∷ 0 ∷ 0 ∷ 1 ∷ []) 0 1) 11 0
     ∷ call (queryChecks (selfOrBay 1) 0 0) 11 2
+    ∷ call (queryChecks (0 ∷ 1 ∷ 0 ∷ 3 ∷ 13 ∷ 0 ∷ 1 ∷ 0 ∷ []) 0 0) 11 1
+    ∷ call (queryChecks (0 ∷ 1 ∷ 0 ∷ 3 ∷ 14 ∷ 0 ∷ 0 ∷ 1 ∷ []) 0 0) 11 1
     ∷ call (queryChecks (0 ∷ 1 ∷ 0 ∷ 3 ∷ 7 ∷ 1 ∷ 0 ∷ 0 ∷ []) 0 0) 12 1
     ∷ call (queryChecks (0 ∷ 1 ∷ 0 ∷ 3 ∷ 0 ∷ 1 ∷ 0 ∷ 3 ∷ 5 ∷ 0 ∷ 1 ∷ 0 ∷ []) 0 0) 13 2
+    ∷ call (queryChecks (0 ∷ 1 ∷ 0 ∷ 3 ∷ 8 ∷ 0 ∷ 0 ∷ 0 ∷ 13 ∷ 1 ∷ 0 ∷ 0 ∷ []) 0 0) 13 2
+    ∷ call (queryChecks (0 ∷ 1 ∷ 0 ∷ 3 ∷ 12 ∷ 0 ∷ 0 ∷ 0 ∷ 14 ∷ 0 ∷ 1 ∷ 0 ∷ []) 0 1) 13 2
     ∷ call (queryChecks (0 ∷ 1 ∷ 0 ∷ 3 ∷ 0 ∷ 1 ∷ 0 ∷ 3 ∷ []) 0 0) 14 0
     ∷ call (queryChecks (0 ∷ 1 ∷ 0 ∷ 3 ∷ 2 ∷ 0 ∷ 0 ∷ 0 ∷ []) 0 0) 14 0
     ∷ call (queryChecks (0 ∷ 1 ∷ 0 ∷ 3 ∷ 8 ∷ 0 ∷ 0 ∷ 0 ∷ []) 0 0) 15 1
@@ -85,6 +95,8 @@ calls =
     ∷ call (quickChecks warehouse (6 ∷ 0 ∷ 0 ∷ 0 ∷ 12 ∷ 0 ∷ 0 ∷ 0 ∷ 5 ∷ 0 ∷ 1 ∷ 0 ∷ []) 1 fresh 1) 29 2
     ∷ call (quickChecks warehouse (twiceAt 10) 1 fresh 1) 29 3
     ∷ call (quickChecks warehouse (0 ∷ 1 ∷ 0 ∷ 3 ∷ 12 ∷ 0 ∷ 0 ∷ 0 ∷ 9 ∷ 1 ∷ 0 ∷ 0 ∷ 5 ∷ 0 ∷ 2 ∷ 0 ∷ []) 1 fresh 1) 29 2
+    ∷ call (quickChecks warehouse (6 ∷ 0 ∷ 0 ∷ 0 ∷ 13 ∷ 0 ∷ 0 ∷ 0 ∷ []) 1 fresh 1) 29 1
+    ∷ call (quickChecks warehouse (sameAt 1) 1 fresh 1) 29 3
     ∷ call (imageChecks warehouse (selfOrBay 1) 1 [] [] 0) 16 0
     ∷ call (imageChecks warehouse bayAndPallet 2 (5 ∷ 6 ∷ []) [] 0) 17 1
     ∷ call (pageChecks warehouse bayAndPallet 2 (begunAt 5 6) 0) 17 1

@@ -46,6 +46,15 @@ abbrev pub turn : Bool → (ℕ → ℕ → Bool) → ℕ → ℕ → Bool
 turn true R x y = R y x
 turn false R x y = R x y
 
+-- steps of a relation lead from x to y, or y is x, and all nodes between are below k
+unfoldable pub via : (ℕ → ℕ → Bool) → ℕ → ℕ → ℕ → Bool
+via R zero x y = eqb x y || R x y
+via R (suc k) x y = via R k x y || (via R k x k && via R k k y)
+
+-- the reflexive and transitive closure of a relation among n nodes: the least that contains it (proofs/Closure.antt)
+abbrev pub closed : ℕ → (ℕ → ℕ → Bool) → ℕ → ℕ → Bool
+closed n R x y = via R n x y
+
 -- the image of a set under a relation among n nodes: y is in it exactly if some x of the set has (x, y)
 unfoldable pub image : ℕ → (ℕ → ℕ → Bool) → (ℕ → Bool) → ℕ → Bool
 image n R S = upto n (λ y. any n (λ x. S x && R x y))

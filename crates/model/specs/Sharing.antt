@@ -9,10 +9,11 @@ use lib.Dec.{ltb, eqb}
 use Rattle.model.specs.Sets.{any}
 use Rattle.model.specs.Tree.{Tree}
 use Rattle.model.specs.Syntax.{Path, NodeExpr}
-use Rattle.model.specs.Syntax.Path.{step, compose, union, intersect, except, filter, variable, fromRoot}
-use Rattle.model.specs.Syntax.NodeExpr.{exists, negate, both, either, is}
+use Rattle.model.specs.Syntax.Path.{step, compose, union, intersect, except, filter, variable, fromRoot, closure}
+use Rattle.model.specs.Syntax.NodeExpr.{exists, negate, both, either, is, same}
 use Rattle.model.specs.Meaning.{pairs}
 use Rattle.model.specs.QueryTable.{kind, pathAt, exprAt, entriesOf}
+use Rattle.model.specs.Kinds.{isPath}
 use Rattle.model.specs.Refusals.{Check, refuseAt}
 
 -- The rule.
@@ -28,6 +29,7 @@ unfoldable mutual
   inPath (filter p e) k = inPath p k || inExpr e k
   inPath (variable j) k = eqb j k
   inPath (fromRoot p) k = inPath p k
+  inPath (closure p) k = inPath p k
 
   -- variable k stands in the node expression
   pub inExpr : NodeExpr → ℕ → Bool
@@ -36,6 +38,7 @@ unfoldable mutual
   inExpr (both e f) k = inExpr e k || inExpr f k
   inExpr (either e f) k = inExpr e k || inExpr f k
   inExpr (is j) k = eqb j k
+  inExpr (same p q) k = inPath p k || inPath q k
 
 -- a variable stands in both of two parts; a query has at most three variables
 abbrev pub shared : (ℕ → Bool) → (ℕ → Bool) → Bool
@@ -46,7 +49,7 @@ abbrev pub used : (ℕ → Bool) → Bool
 used A = any 3 A
 
 -- the path itself breaks the rule, be its parts as they may: the operands of a compose or filter share a variable, or one stands in
--- an intersect or except
+-- an intersect, an except or a closure
 unfoldable pub pathBreaks : Path → Bool
 pathBreaks (step a name) = false
 pathBreaks (compose p q) = shared (inPath p) (inPath q)
@@ -56,18 +59,20 @@ pathBreaks (except p q) = used (inPath (except p q))
 pathBreaks (filter p e) = shared (inPath p) (inExpr e)
 pathBreaks (variable j) = false
 pathBreaks (fromRoot p) = false
+pathBreaks (closure p) = used (inPath (closure p))
 
--- the node expression itself breaks it: the operands of an `and` share a variable, or one stands in a `not`
+-- the node expression itself breaks it: the operands of an `and` share a variable, or one stands in a `not` or a `same`
 unfoldable pub exprBreaks : NodeExpr → Bool
 exprBreaks (exists p) = false
 exprBreaks (negate e) = used (inExpr (negate e))
 exprBreaks (both e f) = shared (inExpr e) (inExpr f)
 exprBreaks (either e f) = false
 exprBreaks (is j) = false
+exprBreaks (same p q) = used (inExpr (same p q))
 
 -- entry e of a query table breaks it
 unfoldable pub breaks : List ℕ → ℕ → Bool
-breaks q e = cond (ltb (kind q e) 8) (pathBreaks (pathAt q e)) (exprBreaks (exprAt q e))
+breaks q e = cond (isPath (kind q e)) (pathBreaks (pathAt q e)) (exprBreaks (exprAt q e))
 
 -- 29: an entry breaks the rule
 unfoldable pub sharingChecks : List ℕ → List Check
@@ -84,6 +89,7 @@ abbrev mutual
   Unshared (filter p e) = (pathBreaks (filter p e) ≡ false) × (Unshared p × UnsharedExpr e)
   Unshared (variable j) = Unit
   Unshared (fromRoot p) = Unshared p
+  Unshared (closure p) = pathBreaks (closure p) ≡ false
 
   -- neither the node expression nor a part of it breaks the rule
   pub UnsharedExpr : NodeExpr → Type 0
@@ -92,6 +98,7 @@ abbrev mutual
   UnsharedExpr (both e f) = (exprBreaks (both e f) ≡ false) × (UnsharedExpr e × UnsharedExpr f)
   UnsharedExpr (either e f) = UnsharedExpr e × UnsharedExpr f
   UnsharedExpr (is j) = Unit
+  UnsharedExpr (same p q) = exprBreaks (same p q) ≡ false
 
 -- Variables that stand for any node.
 
@@ -114,6 +121,7 @@ unfoldable mutual
   opened free (filter p e) = filter (opened free p) (openedExpr free e)
   opened free (variable k) = cond (free k) anyNode (variable k)
   opened free (fromRoot p) = fromRoot (opened free p)
+  opened free (closure p) = closure (opened free p)
 
   -- the node expression, where they do
   pub openedExpr : (ℕ → Bool) → NodeExpr → NodeExpr
@@ -122,6 +130,7 @@ unfoldable mutual
   openedExpr free (both e f) = both (openedExpr free e) (openedExpr free f)
   openedExpr free (either e f) = either (openedExpr free e) (openedExpr free f)
   openedExpr free (is k) = cond (free k) everywhere (is k)
+  openedExpr free (same p q) = same (opened free p) (opened free q)
 
 -- of the first k variables, those from i on: the columns not yet filled of document 02
 abbrev pub unfilled : ℕ → ℕ → ℕ → Bool

@@ -2,25 +2,25 @@
 use Prim.Native.Nat.{ℕ, zero, suc, _+_, _*_, _≤_, _<_}
 use native.Mathlib.Omega.{arith}
 use mathlib.Core.Path.{_≡_, refl, sym, ap, _∙_, subst}
-use mathlib.Core.Bool.{true, false, cond}
+use mathlib.Core.Bool.{Bool, true, false, cond}
 use mathlib.Core.List.{List}
 use lib.ListN.{length}
 use lib.Seq.{length-take-le, getD-take}
 use lib.Dec.{ltb}
-use borrow.Author.Tests.{ltb-true, ltb-false, lt-ltb, le-ltb}
+use borrow.Author.Tests.{lt-ltb}
 use Rattle.model.specs.declared.Entry.{Entry}
 use Rattle.model.specs.Syntax.{Path, NodeExpr}
-use Rattle.model.specs.Syntax.Path.{step, compose, union, intersect, except, filter, variable, fromRoot}
-use Rattle.model.specs.Syntax.NodeExpr.{exists, negate, both, either, is}
+use Rattle.model.specs.Syntax.Path.{step, compose, union, intersect, except, filter, variable, fromRoot, closure}
+use Rattle.model.specs.Syntax.NodeExpr.{exists, negate, both, either, is, same}
 use Rattle.model.specs.QueryTable.{entriesOf, kind, left, right, tag, entry, pathAt, exprAt, lastOf}
-use Rattle.model.specs.Checks.{leftPath, leftExpr, rightPath, rightExpr, namesVariable, hasLeft, hasRight}
+use Rattle.model.specs.Kinds.{isPath, leftPath, leftExpr, rightPath, rightExpr, namesVariable, hasLeft, hasRight}
 use Rattle.model.specs.Accepted.{Shaped, Evaluable}
 use Rattle.model.specs.Sharing.{anyNode, everywhere, opened, openedExpr, unfilled}
 use Rattle.model.proofs.Booleans.{Seen, seen, no-yes, or-left, or-right}
 use Rattle.model.proofs.Booleans.Seen.{yes!, no! }
-use Rattle.model.proofs.QueryTable.{at-step, at-compose, at-union, at-intersect, at-except, at-filter, at-variable, at-root, at-exists, at-negate, at-both, at-either, at-is}
-use Rattle.model.proofs.Shaped.{PathBefore, ExprBefore, Read, BySort, as-path, as-expr, by-sort}
-use Rattle.model.proofs.Shaped.Read.{step!, compose!, union!, intersect!, except!, filter!, variable!, root!, exists!, negate!, both!, either!, is! }
+use Rattle.model.proofs.QueryTable.{at-step, at-compose, at-union, at-intersect, at-except, at-filter, at-variable, at-root, at-exists, at-negate, at-both, at-either, at-is, at-closure, at-same}
+use Rattle.model.proofs.Shaped.{PathBefore, ExprBefore, Read, sort-of, BySort, as-path, as-expr, by-sort}
+use Rattle.model.proofs.Shaped.Read.{step!, compose!, union!, intersect!, except!, filter!, variable!, root!, exists!, negate!, both!, either!, is!, closure!, same! }
 use Rattle.opening.specs.Opening.{nodeStep, standIn, movedEntry, openedEntry, Opens, openedTable}
 use Rattle.opening.proofs.Entries.{Stands, stands, named-leaf}
 use Rattle.opening.proofs.Entries.Stands.{path!, expr!, moved! }
@@ -38,8 +38,8 @@ module _ (q : List ℕ) (i : ℕ) (r : List ℕ) (ok : Shaped q) (o : Opens q i 
   pub opened-last : 0 < entriesOf q → lastOf T ≡ 2 + lastOf q
   opened-last some = omega (arith, opened-entries)
 
-  same : (e : ℕ) → e < entriesOf q + 2 → entry T e ≡ entry r e
-  same e l = λ j. record {
+  kept : (e : ℕ) → e < entriesOf q + 2 → entry T e ≡ entry r e
+  kept e l = λ j. record {
     kind = getD-take (4 * (entriesOf q + 2)) r (4 * e) 0 (omega arith) j;
     left = getD-take (4 * (entriesOf q + 2)) r (4 * e + 1) 0 (omega arith) j;
     right = getD-take (4 * (entriesOf q + 2)) r (4 * e + 2) 0 (omega arith) j;
@@ -47,42 +47,42 @@ module _ (q : List ℕ) (i : ℕ) (r : List ℕ) (ok : Shaped q) (o : Opens q i 
   }
 
   at-zero : entry T 0 ≡ nodeStep 0
-  at-zero = same 0 (omega arith) ∙ o .front .first
+  at-zero = kept 0 (omega arith) ∙ o .front .first
 
   at-one : entry T 1 ≡ nodeStep 11
-  at-one = same 1 (omega arith) ∙ o .front .second
+  at-one = kept 1 (omega arith) ∙ o .front .second
 
   behind : (e : ℕ) → e < entriesOf q → entry T (2 + e) ≡ openedEntry i (entry q e)
-  behind e l = same (2 + e) (omega arith) ∙ o .at e l
+  behind e l = kept (2 + e) (omega arith) ∙ o .at e l
 
   form : (e : ℕ) → e < entriesOf q → Stands i (entry q e) (entry T (2 + e))
   form e l = subst (Stands i (entry q e)) (sym (behind e l)) (stands i (entry q e))
 
   -- paths stay paths, and node expressions stay such
 
-  same-sort : (e : ℕ) → e < entriesOf q → ltb (kind T (2 + e)) 8 ≡ ltb (kind q e) 8
-  unfolding movedEntry
+  same-sort : (e : ℕ) → e < entriesOf q → isPath (kind T (2 + e)) ≡ isPath (kind q e)
+  unfolding movedEntry isPath
   same-sort e l = go (form e l)
     where
-      go : Stands i (entry q e) (entry T (2 + e)) → ltb (kind T (2 + e)) 8 ≡ ltb (kind q e) 8
-      go (path! k m p) = ap (λ (f : Entry). ltb (f .kind) 8) p ∙ rw k
-      go (expr! k m p) = ap (λ (f : Entry). ltb (f .kind) 8) p ∙ rw k
-      go (moved! m p) = ap (λ (f : Entry). ltb (f .kind) 8) p
+      go : Stands i (entry q e) (entry T (2 + e)) → isPath (kind T (2 + e)) ≡ isPath (kind q e)
+      go (path! k m p) = ap (λ (f : Entry). isPath (f .kind)) p ∙ rw k
+      go (expr! k m p) = ap (λ (f : Entry). isPath (f .kind)) p ∙ rw k
+      go (moved! m p) = ap (λ (f : Entry). isPath (f .kind)) p
 
-  pub opened-kind : (e : ℕ) → e < entriesOf q → kind q e < 8 → kind T (2 + e) < 8
-  opened-kind e l h = ltb-true (kind T (2 + e)) 8 (same-sort e l ∙ lt-ltb (kind q e) 8 h)
+  pub opened-sort : (e : ℕ) → e < entriesOf q → {b : Bool} → isPath (kind q e) ≡ b → isPath (kind T (2 + e)) ≡ b
+  opened-sort e l h = same-sort e l ∙ h
 
   -- operands move with their entry
 
   path-behind : (e x : ℕ) → e < entriesOf q → PathBefore q e x → PathBefore T (2 + e) (2 + x)
-  path-behind e x l w = (omega (arith, w .0), opened-kind x (omega (arith, w .0)) (w .1))
+  path-behind e x l w = (omega (arith, w .0), opened-sort x (omega (arith, w .0)) (w .1))
 
   expr-behind : (e x : ℕ) → e < entriesOf q → ExprBefore q e x → ExprBefore T (2 + e) (2 + x)
-  expr-behind e x l w = (omega (arith, w .0), ltb-false (kind T (2 + x)) 8 (same-sort x (omega (arith, w .0)) ∙ le-ltb (kind q x) 8 (w .1)))
+  expr-behind e x l w = (omega (arith, w .0), opened-sort x (omega (arith, w .0)) (w .1))
 
   -- what makes a table evaluable for m nodes, of one entry f of it, entry e
   record Fit (m e : ℕ) (f : Entry) : Type 0 where
-    known : f .kind ≤ 12
+    known : f .kind ≤ 14
     axis : f .kind ≡ 0 → f .left ≤ 12
     left-path : leftPath (f .kind) ≡ true → PathBefore T e (f .left)
     left-expr : leftExpr (f .kind) ≡ true → ExprBefore T e (f .left)
@@ -91,7 +91,7 @@ module _ (q : List ℕ) (i : ℕ) (r : List ℕ) (ok : Shaped q) (o : Opens q i 
     variable : namesVariable (f .kind) ≡ true → f .left < m
 
   -- a step, or an entry with one operand, a path
-  fit-one : (m e k l g : ℕ) → k ≤ 12 → (k ≡ 0 → l ≤ 12) → (leftPath k ≡ true → PathBefore T e l) → leftExpr k ≡ false → rightPath k ≡ false → rightExpr k ≡ false → namesVariable k ≡ false
+  fit-one : (m e k l g : ℕ) → k ≤ 14 → (k ≡ 0 → l ≤ 12) → (leftPath k ≡ true → PathBefore T e l) → leftExpr k ≡ false → rightPath k ≡ false → rightExpr k ≡ false → namesVariable k ≡ false
       → Fit m e (record { kind = k; left = l; right = 0; tag = g })
   fit-one m e k l g known axis path a b c d = record {
     known = known;
@@ -107,22 +107,22 @@ module _ (q : List ℕ) (i : ℕ) (r : List ℕ) (ok : Shaped q) (o : Opens q i 
     fit-moved : (e : ℕ) → e < entriesOf q → Fit (length nodes) (2 + e) (movedEntry (entry q e))
     unfolding movedEntry leftPath leftExpr
     fit-moved e l = record {
-      known = ev .known e l;
+      known = ev .formed .known e l;
       axis = λ h. rw h (ev .axis e l h);
-      left-path = λ h. rw (or-left (leftPath (kind q e)) (leftExpr (kind q e)) h) (path-behind e (left q e) l (ev .left-path e l h));
-      left-expr = λ h. rw (or-right (leftPath (kind q e)) (leftExpr (kind q e)) h) (expr-behind e (left q e) l (ev .left-expr e l h));
-      right-path = λ h. rw (or-left (rightPath (kind q e)) (rightExpr (kind q e)) h) (path-behind e (right q e) l (ev .right-path e l h));
-      right-expr = λ h. rw (or-right (rightPath (kind q e)) (rightExpr (kind q e)) h) (expr-behind e (right q e) l (ev .right-expr e l h));
+      left-path = λ h. rw (or-left (leftPath (kind q e)) (leftExpr (kind q e)) h) (path-behind e (left q e) l (ev .formed .left-path e l h));
+      left-expr = λ h. rw (or-right (leftPath (kind q e)) (leftExpr (kind q e)) h) (expr-behind e (left q e) l (ev .formed .left-expr e l h));
+      right-path = λ h. rw (or-left (rightPath (kind q e)) (rightExpr (kind q e)) h) (path-behind e (right q e) l (ev .formed .right-path e l h));
+      right-expr = λ h. rw (or-right (rightPath (kind q e)) (rightExpr (kind q e)) h) (expr-behind e (right q e) l (ev .formed .right-expr e l h));
       variable = λ h. rw (named-leaf (kind q e) h) (ev .variable e l h);
     }
 
     fit-behind : (e : ℕ) → e < entriesOf q → Fit (length nodes) (2 + e) (entry T (2 + e))
-    unfolding leftPath leftExpr rightPath rightExpr namesVariable
+    unfolding isPath leftPath leftExpr rightPath rightExpr namesVariable
     fit-behind e l = go (form e l)
       where
         go : Stands i (entry q e) (entry T (2 + e)) → Fit (length nodes) (2 + e) (entry T (2 + e))
-        go (path! k m p) = rw p (fit-one (length nodes) (2 + e) 7 1 0 (omega arith) (λ h. omega arith) (λ h. (omega arith, omega (arith, ap (λ (f : Entry). f .kind) at-one))) refl refl refl refl)
-        go (expr! k m p) = rw p (fit-one (length nodes) (2 + e) 8 0 0 (omega arith) (λ h. omega arith) (λ h. (omega arith, omega (arith, ap (λ (f : Entry). f .kind) at-zero))) refl refl refl refl)
+        go (path! k m p) = rw p (fit-one (length nodes) (2 + e) 7 1 0 (omega arith) (λ h. omega arith) (λ h. (omega arith, ap (λ (f : Entry). isPath (f .kind)) at-one)) refl refl refl refl)
+        go (expr! k m p) = rw p (fit-one (length nodes) (2 + e) 8 0 0 (omega arith) (λ h. omega arith) (λ h. (omega arith, ap (λ (f : Entry). isPath (f .kind)) at-zero)) refl refl refl refl)
         go (moved! m p) = rw p (fit-moved e l)
 
     fit : (e : ℕ) → e < entriesOf q + 2 → Fit (length nodes) e (entry T e)
@@ -134,12 +134,14 @@ module _ (q : List ℕ) (i : ℕ) (r : List ℕ) (ok : Shaped q) (o : Opens q i 
     -- the opened table can be evaluated where the query can
     pub opened-evaluable : Evaluable t T nodes
     opened-evaluable = record {
-      known = λ e l. at e l .known;
+      formed = record {
+        known = λ e l. at e l .known;
+        left-path = λ e l. at e l .left-path;
+        left-expr = λ e l. at e l .left-expr;
+        right-path = λ e l. at e l .right-path;
+        right-expr = λ e l. at e l .right-expr;
+      };
       axis = λ e l. at e l .axis;
-      left-path = λ e l. at e l .left-path;
-      left-expr = λ e l. at e l .left-expr;
-      right-path = λ e l. at e l .right-path;
-      right-expr = λ e l. at e l .right-expr;
       variable = λ e l. at e l .variable;
       node = ev .node;
     }
@@ -238,28 +240,30 @@ module _ (q : List ℕ) (i : ℕ) (r : List ℕ) (ok : Shaped q) (o : Opens q i 
       unfolding namesVariable standIn opened
       is-is h = name exprAt E is everywhere 12 h refl at-is (λ j. refl) (λ s. over-step exprAt exists 8 0 0 s at-zero (omega arith) at-exists)
 
-      path-case : kind q e < 8 → PathOpened e → BySort q PathOpened ExprOpened e
+      path-case : isPath (kind q e) ≡ true → PathOpened e → BySort q PathOpened ExprOpened e
       path-case l p = as-path q PathOpened ExprOpened e l p
 
-      expr-case : 8 ≤ kind q e → ExprOpened e → BySort q PathOpened ExprOpened e
+      expr-case : isPath (kind q e) ≡ false → ExprOpened e → BySort q PathOpened ExprOpened e
       expr-case l p = as-expr q PathOpened ExprOpened e l p
 
       agrees : ((x : ℕ) → PathBefore q e x → PathOpened x) → ((x : ℕ) → ExprBefore q e x → ExprOpened x) → Read q e → BySort q PathOpened ExprOpened e
-      unfolding leftPath leftExpr rightPath rightExpr namesVariable opened
-      agrees f g (step! h p) = path-case (omega arith) (is-step h)
-      agrees f g (compose! h l r p) = path-case (omega arith) (two pathAt pathAt pathAt P P P compose 1 h refl refl refl at-compose (λ x y. refl) (l .0) (r .0) (f (left q e) l) (f (right q e) r))
-      agrees f g (union! h l r p) = path-case (omega arith) (two pathAt pathAt pathAt P P P union 2 h refl refl refl at-union (λ x y. refl) (l .0) (r .0) (f (left q e) l) (f (right q e) r))
-      agrees f g (intersect! h l r p) = path-case (omega arith) (two pathAt pathAt pathAt P P P intersect 3 h refl refl refl at-intersect (λ x y. refl) (l .0) (r .0) (f (left q e) l) (f (right q e) r))
-      agrees f g (except! h l r p) = path-case (omega arith) (two pathAt pathAt pathAt P P P except 4 h refl refl refl at-except (λ x y. refl) (l .0) (r .0) (f (left q e) l) (f (right q e) r))
-      agrees f g (filter! h l r p) = path-case (omega arith) (two pathAt exprAt pathAt P E P filter 5 h refl refl refl at-filter (λ x y. refl) (l .0) (r .0) (f (left q e) l) (g (right q e) r))
-      agrees f g (variable! h p) = path-case (omega arith) (is-variable h)
-      agrees f g (root! h l p) = path-case (omega arith) (one pathAt pathAt P P fromRoot 7 h refl refl at-root (λ x. refl) (l .0) (f (left q e) l))
-      agrees f g (exists! h l p) = expr-case (omega arith) (one pathAt exprAt P E exists 8 h refl refl at-exists (λ x. refl) (l .0) (f (left q e) l))
-      agrees f g (negate! h l p) = expr-case (omega arith) (one exprAt exprAt E E negate 9 h refl refl at-negate (λ x. refl) (l .0) (g (left q e) l))
-      agrees f g (both! h l r p) = expr-case (omega arith) (two exprAt exprAt exprAt E E E both 10 h refl refl refl at-both (λ x y. refl) (l .0) (r .0) (g (left q e) l) (g (right q e) r))
-      agrees f g (either! h l r p) = expr-case (omega arith) (two exprAt exprAt exprAt E E E either 11 h refl refl refl at-either (λ x y. refl) (l .0) (r .0) (g (left q e) l) (g (right q e) r))
-      agrees f g (is! h p) = expr-case (omega arith) (is-is h)
+      unfolding isPath leftPath leftExpr rightPath rightExpr namesVariable opened
+      agrees f g (step! h p) = path-case (sort-of q e refl h) (is-step h)
+      agrees f g (compose! h l r p) = path-case (sort-of q e refl h) (two pathAt pathAt pathAt P P P compose 1 h refl refl refl at-compose (λ x y. refl) (l .0) (r .0) (f (left q e) l) (f (right q e) r))
+      agrees f g (union! h l r p) = path-case (sort-of q e refl h) (two pathAt pathAt pathAt P P P union 2 h refl refl refl at-union (λ x y. refl) (l .0) (r .0) (f (left q e) l) (f (right q e) r))
+      agrees f g (intersect! h l r p) = path-case (sort-of q e refl h) (two pathAt pathAt pathAt P P P intersect 3 h refl refl refl at-intersect (λ x y. refl) (l .0) (r .0) (f (left q e) l) (f (right q e) r))
+      agrees f g (except! h l r p) = path-case (sort-of q e refl h) (two pathAt pathAt pathAt P P P except 4 h refl refl refl at-except (λ x y. refl) (l .0) (r .0) (f (left q e) l) (f (right q e) r))
+      agrees f g (filter! h l r p) = path-case (sort-of q e refl h) (two pathAt exprAt pathAt P E P filter 5 h refl refl refl at-filter (λ x y. refl) (l .0) (r .0) (f (left q e) l) (g (right q e) r))
+      agrees f g (variable! h p) = path-case (sort-of q e refl h) (is-variable h)
+      agrees f g (root! h l p) = path-case (sort-of q e refl h) (one pathAt pathAt P P fromRoot 7 h refl refl at-root (λ x. refl) (l .0) (f (left q e) l))
+      agrees f g (exists! h l p) = expr-case (sort-of q e refl h) (one pathAt exprAt P E exists 8 h refl refl at-exists (λ x. refl) (l .0) (f (left q e) l))
+      agrees f g (negate! h l p) = expr-case (sort-of q e refl h) (one exprAt exprAt E E negate 9 h refl refl at-negate (λ x. refl) (l .0) (g (left q e) l))
+      agrees f g (both! h l r p) = expr-case (sort-of q e refl h) (two exprAt exprAt exprAt E E E both 10 h refl refl refl at-both (λ x y. refl) (l .0) (r .0) (g (left q e) l) (g (right q e) r))
+      agrees f g (either! h l r p) = expr-case (sort-of q e refl h) (two exprAt exprAt exprAt E E E either 11 h refl refl refl at-either (λ x y. refl) (l .0) (r .0) (g (left q e) l) (g (right q e) r))
+      agrees f g (is! h p) = expr-case (sort-of q e refl h) (is-is h)
+      agrees f g (closure! h l p) = path-case (sort-of q e refl h) (one pathAt pathAt P P closure 13 h refl refl at-closure (λ x. refl) (l .0) (f (left q e) l))
+      agrees f g (same! h l r p) = expr-case (sort-of q e refl h) (two pathAt pathAt exprAt P P E same 14 h refl refl refl at-same (λ x y. refl) (l .0) (r .0) (f (left q e) l) (f (right q e) r))
 
     -- each path of the query stands in the table as that path, opened
-    pub opened-path : (e : ℕ) → e < entriesOf q → kind q e < 8 → pathAt T (2 + e) ≡ opened (unfilled i k) (pathAt q e)
+    pub opened-path : (e : ℕ) → e < entriesOf q → isPath (kind q e) ≡ true → pathAt T (2 + e) ≡ opened (unfilled i k) (pathAt q e)
     opened-path e l h = by-sort q PathOpened ExprOpened ok agrees e l .0 h

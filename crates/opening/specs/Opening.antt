@@ -8,7 +8,7 @@ use lib.ListN.{length, take}
 use lib.Dec.{ltb, eqb}
 use Rattle.model.specs.declared.Entry.{Entry}
 use Rattle.model.specs.QueryTable.{entriesOf, entry}
-use Rattle.model.specs.Checks.{namesVariable, hasLeft, hasRight}
+use Rattle.model.specs.Kinds.{namesVariable, hasLeft, hasRight}
 
 -- the step on an axis to every node (document 02, §5: the test `node()`)
 abbrev pub nodeStep : ℕ → Entry

@@ -13,7 +13,8 @@ use borrow.Author.Tests.{not-false, not-true, eq-eqb, ne-eqb, lt-ltb, le-ltb}
 use Rattle.model.specs.declared.Entry.{Entry}
 use Rattle.model.specs.Sets.{bit}
 use Rattle.model.specs.QueryTable.{entriesOf, entry}
-use Rattle.model.specs.Checks.{hasLeft, hasRight, naming, uses, misused}
+use Rattle.model.specs.Kinds.{hasLeft, hasRight}
+use Rattle.model.specs.Checks.{naming, uses, misused}
 use Rattle.query.specs.Uses.{kept, oneMore, withUse, Counted}
 
 -- one use more, as it is kept

@@ -5,7 +5,8 @@ ghost use Prim.Native.Nat.{_*_, _≤_, _<_};
 ghost use lib.ListN.{getD};
 ghost use Rattle.model.specs.QueryTable.{entriesOf, kind, entry, lastOf};
 ghost use Rattle.model.specs.Refusals.{lowest, verdict};
-ghost use Rattle.model.specs.Checks.{leftPath, leftExpr, rightPath, rightExpr, namesVariable, hasLeft, hasRight, badQueryLength, badVariableCount, badKind, badField, badOperand, badSort, badEntry, misused, badLast, useChecks, entryChecks, queryChecks};
+ghost use Rattle.model.specs.Kinds.{isPath, leftPath, leftExpr, rightPath, rightExpr, namesVariable, hasLeft, hasRight};
+ghost use Rattle.model.specs.Checks.{badQueryLength, badVariableCount, badKind, badField, badOperand, badSort, badEntry, misused, badLast, useChecks, entryChecks, queryChecks};
 ghost use Rattle.query.specs.Uses.{oneMore, withUse, Counted};
 
 // Reading the table.
@@ -41,13 +42,20 @@ pub fn entry_at(query: &[u16], e: usize) -> model::Entry
     }
 }
 
-// What the operands of a kind are.
+// What a kind is, and what its operands are, by the table of kinds in `model`.
+
+// Its entries are paths, else node expressions.
+fn is_path(k: usize) -> bool
+    ensures { λ r. ⌜ r ≡ isPath k ⌝ }
+{
+    (k < 8) | (k == 13)
+}
 
 // The left operand is a path.
 fn left_path(k: usize) -> bool
     ensures { λ r. ⌜ r ≡ leftPath k ⌝ }
 {
-    ((0 < k) & (k < 6)) | ((k == 7) | (k == 8))
+    ((0 < k) & (k < 6)) | ((k == 7) | ((k == 8) | ((k == 13) | (k == 14))))
 }
 
 // The left operand is a node expression.
@@ -61,7 +69,7 @@ fn left_expr(k: usize) -> bool
 fn right_path(k: usize) -> bool
     ensures { λ r. ⌜ r ≡ rightPath k ⌝ }
 {
-    (0 < k) & (k < 5)
+    ((0 < k) & (k < 5)) | (k == 14)
 }
 
 // The right operand is a node expression.
@@ -112,7 +120,7 @@ fn is_bad_variable_count(least: usize, columns: usize) -> bool
 fn is_bad_kind(f: model::Entry) -> bool
     ensures { λ r. ⌜ r ≡ badKind f ⌝ }
 {
-    12 < f.kind
+    14 < f.kind
 }
 
 // 11: an axis or a variable is out of range, or an unnamed field is not 0.
@@ -137,8 +145,9 @@ fn is_bad_operand(e: usize, f: model::Entry) -> bool
 fn is_bad_sort(k: usize, l: usize, r: usize) -> bool
     ensures { λ b. ⌜ b ≡ badSort k l r ⌝ }
 {
-    ((left_path(k) & !(l < 8)) | (left_expr(k) & (l < 8)))
-        | ((right_path(k) & !(r < 8)) | (right_expr(k) & (r < 8)))
+    let a = is_path(l);
+    let b = is_path(r);
+    ((left_path(k) & !a) | (left_expr(k) & a)) | ((right_path(k) & !b) | (right_expr(k) & b))
 }
 
 // 15: the last entry is a node expression.
@@ -146,7 +155,7 @@ fn is_bad_last(query: &[u16], last: usize) -> bool
     requires { ⌜ last ≡ lastOf (now query) ⌝ }
     ensures { λ r. ⌜ r ≡ badLast (now (query .entry)) ⌝ }
 {
-    !(kind_at(query, last) < 8)
+    !is_path(kind_at(query, last))
 }
 
 // Uses as operands, for 14. One pass counts those of all entries, where a search for each entry would be quadratic.

@@ -93,7 +93,7 @@ module _ (t q : List ℕ) (columns : ℕ) (c : Cursor) (room : ℕ) (v : Reply) 
       record {
         searchable = s;
         shaped = shape;
-        rule = query-unshared q shape (passing .1 .0) (lastOf q) (s .path .within) (omega (arith, s .path .most));
+        rule = query-unshared q shape (passing .1 .0) (lastOf q) (s .path .within) (s .path .sort);
       }
 
 -- What a call leaves.

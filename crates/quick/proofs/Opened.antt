@@ -13,7 +13,7 @@ use lib.Seq.{length-take-le, getD-take}
 use borrow.Author.Tests.{lt-ltb, le-ltb, ltb-true}
 use Rattle.model.specs.Tree.{treeOf, sizeOf}
 use Rattle.model.specs.QueryTable.{entriesOf, kind, left, pathAt, lastOf}
-use Rattle.model.specs.Checks.{namesVariable}
+use Rattle.model.specs.Kinds.{namesVariable}
 use Rattle.model.specs.Results.{assigned, related}
 use Rattle.model.specs.Answers.{Row, satisfied}
 use Rattle.model.specs.Accepted.{Sound}
@@ -22,7 +22,7 @@ use Rattle.model.proofs.Booleans.{Seen, yes!, no!, seen, no-yes, not-yes, yes-r
 use Rattle.model.proofs.Exactness.{exact}
 use Rattle.model.proofs.Sharing.{opened-none}
 use Rattle.opening.specs.Opening.{Opens, openedTable}
-use Rattle.opening.proofs.Opened.{opened-last, opened-kind, opened-entries, opened-evaluable, opened-path}
+use Rattle.opening.proofs.Opened.{opened-last, opened-sort, opened-entries, opened-evaluable, opened-path}
 use Rattle.answers.specs.Search.{Searchable}
 use Rattle.quick.specs.Search.{Ready, Answer, Nodes, Same, passes, satisfiedOpen, goesOn, Lowest, Begins}
 
@@ -67,10 +67,9 @@ module _ {t prev q : List ℕ} {k : ℕ} (ok : Ready t prev q k) where
     pub opened-searchable : Searchable t prev (openedTable q r) k
     opened-searchable =
         let last : lastOf (openedTable q r) ≡ 2 + lastOf q = opened-last q i r (ok .shaped) o (omega (arith, ok .searchable .path .within)) in
-        let kind : kind (openedTable q r) (2 + lastOf q) < 8 = opened-kind q i r (ok .shaped) o (lastOf q) (ok .searchable .path .within) (omega (arith, ok .searchable .path .most)) in
         record {
           linked = ok .searchable .linked;
-          path = rw last (record { within = omega (arith, opened-entries q i r (ok .shaped) o, ok .searchable .path .within); least = omega arith; most = omega arith });
+          path = rw last (record { within = omega (arith, opened-entries q i r (ok .shaped) o, ok .searchable .path .within); sort = opened-sort q i r (ok .shaped) o (lastOf q) (ok .searchable .path .within) (ok .searchable .path .sort) });
           least = ok .searchable .least;
           most = ok .searchable .most;
           query = λ row e b. opened-evaluable q i r (ok .shaped) o t row (ok .searchable .query row e b);
@@ -80,7 +79,7 @@ module _ {t prev q : List ℕ} {k : ℕ} (ok : Ready t prev q k) where
     unfolding satisfied related satisfiedOpen
     opened-satisfied row =
         let last : lastOf (openedTable q r) ≡ 2 + lastOf q = opened-last q i r (ok .shaped) o (omega (arith, ok .searchable .path .within)) in
-        rw (last, opened-path q i r (ok .shaped) o k named (lastOf q) (ok .searchable .path .within) (omega (arith, ok .searchable .path .most)))
+        rw (last, opened-path q i r (ok .shaped) o k named (lastOf q) (ok .searchable .path .within) (ok .searchable .path .sort))
 
   -- where the variables behind i stand for any node
   pub opened-passes : (i : ℕ) (r row : List ℕ) → Opens q (i + 1) r → passes t (openedTable q r) k row i ≡ goesOn t q k row i

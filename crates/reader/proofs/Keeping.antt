@@ -40,24 +40,24 @@ use Rattle.reader.specs.Read.{expression, typed, tagIn, queryOf, anyUnkn
 use Rattle.reader.specs.Turns.{beginning, soughtAt, kept, opens, moved, turnAt, Within, Took, Finished, ReadsTo}
 use Rattle.reader.proofs.Names.{on-axis, some-tag, Ends, ends-here, goes-on, place-most}
 
--- the words have numbers below 36
+-- the words have numbers below 38
 
 nth-below : (l : List (Choice State)) (i : ℕ) (x : State) → Nth l i x → i < length l
 nth-below [] i x n = absurd n
 nth-below (choice m w y ∷ l) i x n =
     ⊎-elim (λ a. let e = a .0 in omega arith) (λ a. let e = a .1 in let h = nth-below l (a .0) x (a .2) in omega arith) n
 
-taken-below : (s : State) (k : ℕ) (x : State) → Taken s k x → k < 36
+taken-below : (s : State) (k : ℕ) (x : State) → Taken s k x → k < 38
 unfolding next each Rattle.grammar.specs.Grammar.axes Rattle.grammar.specs.Grammar.variables
 taken-below (state fs want) k x t = let h : k < 20 = nth-below (next (state fs want)) k x t in omega arith
 taken-below (state fs (axis a)) k x t = ⊎-elim (λ u. let e = u .0 in omega arith) (λ u. let e = u .0 in omega arith) t
 taken-below (state fs (have e)) k x t =
-    ⊎-elim (λ u. let q = u .0 in omega arith) (λ u. let q = u .1 in let h : u .0 < 14 = nth-below (behind fs e) (u .0) x (u .2) in omega arith) t
+    ⊎-elim (λ u. let q = u .0 in omega arith) (λ u. let q = u .1 in let h : u .0 < 16 = nth-below (behind fs e) (u .0) x (u .2) in omega arith) t
 
--- the words from 33 on write no name, whatever the tag
-unnamed-items : (f : ℕ) (ks : List ℕ) (k a g h : ℕ) → ltb k 33 ≡ false → wordItems f ks k a g ≡ wordItems f ks k a h
+-- the words from 34 on write no name, whatever the tag
+unnamed-items : (f : ℕ) (ks : List ℕ) (k a g h : ℕ) → ltb k 34 ≡ false → wordItems f ks k a g ≡ wordItems f ks k a h
 unfolding wordItems
-unnamed-items f ks k a g h e = let l = ltb-false k 33 e in rw (le-ltb k 20 (omega arith), e)
+unnamed-items f ks k a g h e = let l = ltb-false k 34 e in rw (le-ltb k 20 (omega arith), e)
 
 module _ (text house site : List ℕ) where
   abbrev tag : List ℕ → ℕ
@@ -136,7 +136,7 @@ module _ (text house site : List ℕ) where
       -- a word was read
       module _ (k : ℕ) (m : Move) (n : ℕ) (low : p .at < length text) (short : length text ≤ 1024) (turn : Go k m n ≡ turnAt text p stack) where
         abbrev seeks : Sought
-        seeks = soughtAt text house site p (ltb k 33)
+        seeks = soughtAt text house site p (ltb k 34)
 
         module _ (q : Progress) (stack′ table′ operands′ : List ℕ) (t : Took text house site p stack table operands k m n q stack′ table′ operands′) where
           went : Went text stack (p .depth) (p .focus) (p .at) (w .place) k stack′ (kept p m + opens m) (m .focus) (p .at + n)
@@ -156,7 +156,7 @@ module _ (text house site : List ℕ) where
               let f : eqb (p .focus) 1 ≡ isAxisFocus here = ap (λ (i : ℕ). eqb i 1) (sym (w .place .focus)) ∙ on-axis here in
               subst (Begun there) (ap (λ (i : ℕ). cond (isAxisFocus here) i (p .start)) l ∙ ap (λ (b : Bool). cond b (p .at) (p .start)) (sym f)) b
 
-          names-there : finished there ≡ finished here ++ cond (ltb k 33) (pendingName here) []
+          names-there : finished there ≡ finished here ++ cond (ltb k 34) (pendingName here) []
           names-there = every-taken NamesOn here k there (went .taken) (names-on here)
 
           -- the names and what is written, as a name ends or not
@@ -172,14 +172,14 @@ module _ (text house site : List ℕ) where
               ∙ ap (λ (f : ℕ). written tag here ++ wordItems f (gapsOf here) k (p .axis) g) (w .place .focus)
               ∙ ap (λ (ks : List ℕ). written tag here ++ wordItems (p .focus) ks k (p .axis) g) (w .place .gaps)
 
-          read-on : Seen (ltb k 33) → Read
+          read-on : Seen (ltb k 34) → Read
           read-on (yes! e) =
               let z : seeks ≡ soughtAt text house site p true = ap (soughtAt text house site p) e in
               let f : finished here ++ pendingName here ≡ finished there = sym (names-there ∙ ap (λ (b : Bool). finished here ++ cond b (pendingName here) []) e) in
               record {
                 unknown = ap (λ (x : Sought). x .unknown) z ∙ ended .unknown ∙ ap (anyUnknown house site) f;
                 first = ap (λ (x : Sought). x .place) z ∙ ended .place ∙ ap (unknownPlace house site) f;
-                placed = place-most house site text p (ltb k 33) (w .placed) (w .started);
+                placed = place-most house site text p (ltb k 34) (w .placed) (w .started);
                 items = items-over (seeks .tag) (subst (λ (x : Sought). Tagged tag here (x .tag)) (sym z) (ended .tag));
               }
           read-on (no! e) =
@@ -197,7 +197,7 @@ module _ (text house site : List ℕ) where
           pub kept-on : Kept q stack′ table′ operands′
           unfolding moved
           kept-on =
-              let d = read-on (seen (ltb k 33)) in
+              let d = read-on (seen (ltb k 34)) in
               let some : 1 ≤ n = go-some text stack (p .depth) (p .focus) (p .at) (w .place) (Go k m n) k m n low turn refl in
               subst (λ (x : Progress). Kept x stack′ table′ operands′) (sym (t .place))
               (record {

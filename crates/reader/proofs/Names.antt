@@ -7,7 +7,7 @@ use mathlib.Core.List.{List, [], _∷_, _++_, append-nil}
 use lib.ListN.{take, drop}
 use lib.Dec.{ltb, eqb}
 use Rattle.model.proofs.Booleans.{no-yes}
-use Rattle.grammar.specs.Grammar.Expr.{wildcard, named, dot, dots, variable, bracket, negate, is, filter, rooted, join}
+use Rattle.grammar.specs.Grammar.Expr.{wildcard, named, dot, dots, variable, bracket, closure, negate, is, filter, rooted, join}
 use Rattle.grammar.specs.Automaton.{State}
 use Rattle.grammar.specs.Automaton.Focus.{want, axis, have}
 use Rattle.grammar.specs.Automaton.State.{state}
@@ -24,7 +24,7 @@ use Rattle.reader.specs.Read.{tagIn, anyUnknown, unknownPlace}
 use Rattle.reader.specs.Turns.{soughtName, soughtAt}
 
 -- the focus tells whether a name is being read, and whether an axis was
-pub in-name : (s : State) → ltb 4 (focusOf s) ≡ inName s
+pub in-name : (s : State) → ltb 5 (focusOf s) ≡ inName s
 unfolding focusCode
 in-name (state fs want) = refl
 in-name (state fs (axis a)) = refl
@@ -114,6 +114,7 @@ module _ (house site : List ℕ) where
   untagged (state fs (have dots)) g h = tt
   untagged (state fs (have (variable k))) g h = tt
   untagged (state fs (have (bracket e))) g h = tt
+  untagged (state fs (have (closure e))) g h = tt
   untagged (state fs (have (negate e))) g h = tt
   untagged (state fs (have (is k))) g h = tt
   untagged (state fs (have (filter e t))) g h = tt
@@ -134,6 +135,7 @@ module _ (house site : List ℕ) where
   tagged-name (state fs (have dots)) p name i h = tt
   tagged-name (state fs (have (variable k))) p name i h = tt
   tagged-name (state fs (have (bracket e))) p name i h = tt
+  tagged-name (state fs (have (closure e))) p name i h = tt
   tagged-name (state fs (have (negate e))) p name i h = tt
   tagged-name (state fs (have (is k))) p name i h = tt
   tagged-name (state fs (have (filter e t))) p name i h = tt
@@ -150,6 +152,7 @@ module _ (house site : List ℕ) where
   some-tag (state fs (have dots)) = (0, tt)
   some-tag (state fs (have (variable k))) = (0, tt)
   some-tag (state fs (have (bracket e))) = (0, tt)
+  some-tag (state fs (have (closure e))) = (0, tt)
   some-tag (state fs (have (negate e))) = (0, tt)
   some-tag (state fs (have (is k))) = (0, tt)
   some-tag (state fs (have (filter e t))) = (0, tt)
@@ -165,12 +168,12 @@ module _ (house site : List ℕ) where
   abbrev one-name : ℕ → List ℕ → List TypedName
   one-name p l = record { place = p; name = l } ∷ []
 
-  nothing-sought : (text : List ℕ) (p : Progress) (ended : Bool) → (ltb 4 (p .focus) && ended) ≡ false
+  nothing-sought : (text : List ℕ) (p : Progress) (ended : Bool) → (ltb 5 (p .focus) && ended) ≡ false
       → soughtAt text house site p ended ≡ record { tag = 0; unknown = p .unknown; place = p .place }
   unfolding soughtAt
   nothing-sought text p ended h = rw h
 
-  name-sought : (text : List ℕ) (p : Progress) → ltb 4 (p .focus) ≡ true
+  name-sought : (text : List ℕ) (p : Progress) → ltb 5 (p .focus) ≡ true
       → soughtAt text house site p true ≡ soughtName (tagOf house site (take (p .at - p .start) (drop (p .start) text))) p
   unfolding soughtAt
   name-sought text p h = rw h
@@ -179,12 +182,12 @@ module _ (house site : List ℕ) where
       → p .unknown ≡ anyUnknown house site (finished s) → p .place ≡ unknownPlace house site (finished s) → Ends text s p
   ends-here text s p af f b u q = go (inName s) refl
     where
-      named-here : ltb 4 (p .focus) ≡ inName s
-      named-here = ap (λ (n : ℕ). ltb 4 n) (sym f) ∙ in-name s
+      named-here : ltb 5 (p .focus) ≡ inName s
+      named-here = ap (λ (n : ℕ). ltb 5 n) (sym f) ∙ in-name s
 
       go : (i : Bool) → inName s ≡ i → Ends text s p
       go false i =
-          let h : (ltb 4 (p .focus) && true) ≡ false = ap (λ (v : Bool). v && true) (named-here ∙ i) in
+          let h : (ltb 5 (p .focus) && true) ≡ false = ap (λ (v : Bool). v && true) (named-here ∙ i) in
           let e = nothing-sought text p true h in
           let n : finished s ≡ finished s ++ pendingName s = sym (ap (λ (l : List TypedName). finished s ++ l) (pending-none s i) ∙ append-nil (finished s)) in
           record {
@@ -207,7 +210,7 @@ module _ (house site : List ℕ) where
 
   -- no name ends
   pub goes-on : (text : List ℕ) (p : Progress) → soughtAt text house site p false ≡ record { tag = 0; unknown = p .unknown; place = p .place }
-  goes-on text p = nothing-sought text p false (and-false (ltb 4 (p .focus)))
+  goes-on text p = nothing-sought text p false (and-false (ltb 5 (p .focus)))
     where
       and-false : (b : Bool) → (b && false) ≡ false
       and-false true = refl
@@ -216,7 +219,7 @@ module _ (house site : List ℕ) where
   -- the place of a name without a tag is one that has been passed
   pub place-most : (text : List ℕ) (p : Progress) (ended : Bool) → p .place ≤ p .at → p .start ≤ p .at → soughtAt text house site p ended .place ≤ p .at
   unfolding soughtAt
-  place-most text p ended h l = go (ltb 4 (p .focus) && ended) (p .unknown || isKnown (tagOf house site (take (p .at - p .start) (drop (p .start) text))))
+  place-most text p ended h l = go (ltb 5 (p .focus) && ended) (p .unknown || isKnown (tagOf house site (take (p .at - p .start) (drop (p .start) text))))
     where
       go : (b c : Bool) → cond {A = Sought} b (record { tag = tagNumber (tagOf house site (take (p .at - p .start) (drop (p .start) text))); unknown = p .unknown || not (isKnown (tagOf house site (take (p .at - p .start) (drop (p .start) text)))); place = cond c (p .place) (p .start) }) (record { tag = 0; unknown = p .unknown; place = p .place }) .place ≤ p .at
       go true true = h

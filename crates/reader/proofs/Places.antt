@@ -60,14 +60,14 @@ not-no true h = refl
 not-no false h = sym h
 
 module _ (text house site : List ℕ) (p : Progress) (ended : Bool) where
-  pub no-name : not (ltb 4 (p .focus) && ended) ≡ true → sought 0 (p .unknown) (p .place) ≡ soughtAt text house site p ended
+  pub no-name : not (ltb 5 (p .focus) && ended) ≡ true → sought 0 (p .unknown) (p .place) ≡ soughtAt text house site p ended
   unfolding soughtAt
-  no-name h = let e = not-yes (ltb 4 (p .focus) && ended) h in rw e
+  no-name h = let e = not-yes (ltb 5 (p .focus) && ended) h in rw e
 
-  pub a-name : (t : Tag) (s : Sought) → s ≡ soughtName t p → t ≡ tagOf house site (take (p .at - p .start) (drop (p .start) text)) → not (ltb 4 (p .focus) && ended) ≡ false
+  pub a-name : (t : Tag) (s : Sought) → s ≡ soughtName t p → t ≡ tagOf house site (take (p .at - p .start) (drop (p .start) text)) → not (ltb 5 (p .focus) && ended) ≡ false
       → s ≡ soughtAt text house site p ended
   unfolding soughtAt
-  a-name t s q e h = let n = not-no (ltb 4 (p .focus) && ended) h in q ∙ ap (λ (x : Tag). soughtName x p) e ∙ rw n
+  a-name t s q e h = let n = not-no (ltb 5 (p .focus) && ended) h in q ∙ ap (λ (x : Tag). soughtName x p) e ∙ rw n
 
 pub when : (b c : Bool) (x y : ℕ) → b ≡ c → b ≡ true → x ≡ cond c x y
 when b c x y e h = ap (λ (v : Bool). cond v x y) (sym (sym e ∙ h))

@@ -26,17 +26,17 @@ module _ (text house site : List ℕ) (p : Progress) (stack table operands : Lis
 
   pub took : (k : ℕ) (m : Move) (n : ℕ) (q : Progress) (stack′ table′ operands′ : List ℕ) (s : Sought) (d : Draft)
       → q ≡ moved p k m n s d
-      → s ≡ soughtAt text house site p (ltb k 33)
+      → s ≡ soughtAt text house site p (ltb k 34)
       → stack′ ≡ set stack (p .depth - m .pops) (m .push)
       → Wrote (wordItems (p .focus) (stackOf stack (p .depth)) k (p .axis) (s .tag)) (made (p .draft) table operands) (made d table′ operands′)
       → Took text house site p stack table operands k m n q stack′ table′ operands′
   took k m n q stack′ table′ operands′ s d e h g w =
       let f : d ≡ q .draft = sym (ap (λ (x : Progress). x .draft) e ∙ draft-moved k m n s d) in
       record {
-        place = e ∙ ap (λ (x : Sought). moved p k m n x d) h ∙ ap (moved p k m n (soughtAt text house site p (ltb k 33))) f;
+        place = e ∙ ap (λ (x : Sought). moved p k m n x d) h ∙ ap (moved p k m n (soughtAt text house site p (ltb k 34))) f;
         gaps = g;
         wrote =
-            subst (λ (x : Draft). Wrote (wordItems (p .focus) (stackOf stack (p .depth)) k (p .axis) (soughtAt text house site p (ltb k 33) .tag)) (made (p .draft) table operands) (made x table′ operands′)) f
+            subst (λ (x : Draft). Wrote (wordItems (p .focus) (stackOf stack (p .depth)) k (p .axis) (soughtAt text house site p (ltb k 34) .tag)) (made (p .draft) table operands) (made x table′ operands′)) f
             (subst (λ (x : Sought). Wrote (wordItems (p .focus) (stackOf stack (p .depth)) k (p .axis) (x .tag)) (made (p .draft) table operands) (made d table′ operands′)) h w);
       }
 
@@ -69,7 +69,7 @@ module _ (text house site : List ℕ) (p : Progress) (stack table operands : Lis
   pub stop-within : (t : Turn) (n len : ℕ) → Within (p .at) len (turnAt text p stack) → t ≡ turnAt text p stack → t ≡ Halt n → p .at + n ≤ len
   stop-within t n len w e h = subst (Within (p .at) len) (sym e ∙ h) w
 
-  pub word-within : (t : Turn) (k : ℕ) (m : Move) (n len : ℕ) → Within (p .at) len (turnAt text p stack) → t ≡ turnAt text p stack → t ≡ Go k m n → k < 36
+  pub word-within : (t : Turn) (k : ℕ) (m : Move) (n len : ℕ) → Within (p .at) len (turnAt text p stack) → t ≡ turnAt text p stack → t ≡ Go k m n → k < 38
   word-within t k m n len w e h = subst (Within (p .at) len) (sym e ∙ h) w .0
 
   pub bytes-within : (t : Turn) (k : ℕ) (m : Move) (n len : ℕ) → Within (p .at) len (turnAt text p stack) → t ≡ turnAt text p stack → t ≡ Go k m n → p .at + n ≤ len

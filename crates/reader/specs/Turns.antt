@@ -37,16 +37,16 @@ soughtName t p =
 -- the name that ends at the place, if one does: a name has been read, and goes on no further
 unfoldable pub soughtAt : List ℕ → List ℕ → List ℕ → Progress → Bool → Sought
 soughtAt text house site p ended =
-    cond (ltb 4 (p .focus) && ended) (soughtName (tagOf house site (take (p .at - p .start) (drop (p .start) text))) p)
+    cond (ltb 5 (p .focus) && ended) (soughtName (tagOf house site (take (p .at - p .start) (drop (p .start) text))) p)
     (record { tag = 0; unknown = p .unknown; place = p .place })
 
 -- how many gaps a step leaves open
 abbrev pub kept : Progress → Move → ℕ
 kept p m = p .depth - m .pops
 
--- how many it opens: one, or none where the move says 13
+-- how many it opens: one, or none where the move says 14
 abbrev pub opens : Move → ℕ
-opens m = cond (ltb (m .push) 13) 1 0
+opens m = cond (ltb (m .push) 14) 1 0
 
 -- the word k was read, which makes the step m and has n bytes
 unfoldable pub moved : Progress → ℕ → Move → ℕ → Sought → Draft → Progress
@@ -69,13 +69,13 @@ turnAt text p stack = turnOf (p .focus) (stackOf stack (p .depth)) (drop (p .at)
 -- a turn stays in the text, and its word is one of the machine's
 abbrev pub Within : ℕ → ℕ → Turn → Type 0
 Within at len (Halt n) = at + n ≤ len
-Within at len (Go k m n) = (k < 36) × (at + n ≤ len)
+Within at len (Go k m n) = (k < 38) × (at + n ≤ len)
 
 -- what the word k, which makes the step m and has n bytes, makes of the place, the stack and the table
 pub record Took (text house site : List ℕ) (p : Progress) (stack table operands : List ℕ) (k : ℕ) (m : Move) (n : ℕ) (q : Progress) (stack′ table′ operands′ : List ℕ) : Type 0 where
-  pub place : q ≡ moved p k m n (soughtAt text house site p (ltb k 33)) (q .draft)
+  pub place : q ≡ moved p k m n (soughtAt text house site p (ltb k 34)) (q .draft)
   pub gaps : stack′ ≡ set stack (kept p m) (m .push)
-  pub wrote : Wrote (wordItems (p .focus) (stackOf stack (p .depth)) k (p .axis) (soughtAt text house site p (ltb k 33) .tag)) (made (p .draft) table operands) (made (q .draft) table′ operands′)
+  pub wrote : Wrote (wordItems (p .focus) (stackOf stack (p .depth)) k (p .axis) (soughtAt text house site p (ltb k 34) .tag)) (made (p .draft) table operands) (made (q .draft) table′ operands′)
 
 -- the reading goes on behind that word
 pub record Goes (text house site : List ℕ) (p : Progress) (stack table operands : List ℕ) (k : ℕ) (m : Move) (n : ℕ) (r : Step) (stack′ table′ operands′ : List ℕ) : Type 0 where

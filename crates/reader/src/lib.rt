@@ -100,7 +100,7 @@ fn name_before(text: &[u8], house: &[u8], site: &[u8], p: Progress, ended: bool)
     requires { ⌜ (p .start ≤ p .at) × (p .at ≤ length (now text)) ⌝ }
     ensures { λ r. ⌜ r ≡ soughtAt (now (text .entry)) (now (house .entry)) (now (site .entry)) p ended ⌝ }
 {
-    let named = (4 < p.focus) & ended;
+    let named = (5 < p.focus) & ended;
     if !named {
         return Sought {
             tag: 0,
@@ -173,14 +173,14 @@ fn take_word(
     m: machine::Move,
     n: usize,
 ) -> Progress
-    requires { ⌜ (p .start ≤ p .at) × (p .at + n ≤ length (now text)) × (length (now text) ≤ 1024) × (p .depth ≤ p .at) × (p .at < 1024) × (k < 36) × (length (now stack) ≡ 1024) × Sound (made (p .draft) (now table) (now operands)) ⌝ }
+    requires { ⌜ (p .start ≤ p .at) × (p .at + n ≤ length (now text)) × (length (now text) ≤ 1024) × (p .depth ≤ p .at) × (p .at < 1024) × (k < 38) × (length (now stack) ≡ 1024) × Sound (made (p .draft) (now table) (now operands)) ⌝ }
     ensures { λ r.
         ⌜
         Took (now (text .entry)) (now (house .entry)) (now (site .entry)) p (now (stack .entry)) (now (table .entry)) (now (operands .entry))
         k m n r (now (stack .exit)) (now (table .exit)) (now (operands .exit))
         ⌝ }
 {
-    let s = name_before(text, house, site, p, k < 33);
+    let s = name_before(text, house, site, p, k < 34);
     let d = emission::write_word(
         stack,
         p.depth,

@@ -107,39 +107,61 @@ fn too_high(kind: usize) -> usize {
     12
 }
 
-// Which number of an entry must be 0: of a step the third, and of every other kind the fourth.
-fn unnamed(kind: usize) -> usize {
-    if kind == 0 {
+// Which number of an entry must be 0: of a step the third, and of every other kind the fourth; the third too where there is no right
+// operand.
+fn unnamed(seed: &mut u64, kind: usize) -> usize {
+    let third = random::below(seed, 2) == 0;
+    if (kind == 0) | (third & (random::right(kind) == 0)) {
         return 2;
     }
     3
 }
 
-// A query ends within entry e, or a field of that entry is at fault: its kind, one that must be 0, or the left one.
-fn in_entry(query: &mut table::Table, e: usize, fault: usize) -> model::Reply {
+// No kind: 15, or any number above.
+fn bad_kind(seed: &mut u64) -> usize {
+    if random::below(seed, 2) == 0 {
+        return 15;
+    }
+    random::between(seed, 15, 65535)
+}
+
+// A query ends within entry e, or a field of that entry, which is of a kind, is at fault: its kind, one that must be 0, or the left one.
+fn in_entry(
+    seed: &mut u64,
+    query: &mut table::Table,
+    e: usize,
+    kind: usize,
+    fault: usize,
+) -> model::Reply {
     let at = table::times(4, e);
     if fault == 0 {
         table::set_length(query, std::num::wrapping_add_usize(at, 3));
         return reply(8, 0);
     }
     if fault == 1 {
-        table::put(query, at, 13);
+        table::put(query, at, bad_kind(seed));
         return reply(10, e);
     }
-    let kind = table::at(table::numbers(query), at);
     if fault == 2 {
-        table::put(
-            query,
-            std::num::wrapping_add_usize(at, unnamed(kind)),
-            65534,
-        );
+        let field = unnamed(seed, kind);
+        table::put(query, std::num::wrapping_add_usize(at, field), 65534);
         return reply(11, e);
     }
     table::put(query, std::num::wrapping_add_usize(at, 1), 64);
     reply(too_high(kind), e)
 }
 
-// A query has one entry more: a step, so that the one before is never an operand; a path negated; or an expression.
+// For each kind one that has operands where it has, but of another sort; 0 where it has none.
+const OTHER: [usize; 15] = [0, 10, 11, 5, 10, 14, 0, 9, 9, 13, 14, 14, 0, 9, 5];
+
+fn other(kind: usize) -> usize {
+    if kind < 15 {
+        return OTHER[kind];
+    }
+    0
+}
+
+// A query has one entry more: a step, so that the one before is never an operand; an expression; or a path negated.
 fn at_end(query: &mut table::Table, last: usize, fault: usize) -> model::Reply {
     let end = std::num::wrapping_add_usize(last, 1);
     if fault == 4 {
@@ -147,20 +169,27 @@ fn at_end(query: &mut table::Table, last: usize, fault: usize) -> model::Reply {
         return reply(14, last);
     }
     if fault == 5 {
-        random::append(query, random::entry(9, last, 0, 0));
-        return reply(13, end);
+        random::append(query, random::entry(8, last, 0, 0));
+        return reply(15, end);
     }
-    random::append(query, random::entry(8, last, 0, 0));
-    reply(15, end)
+    random::append(query, random::entry(9, last, 0, 0));
+    reply(13, end)
 }
 
-// A query of fewer than 64 entries gets a fault of any number but 9.
+// A query of fewer than 64 entries gets a fault of any number but 9. With another kind the operands of entry e are of the wrong sort, if
+// it has any.
 fn in_query(seed: &mut u64, query: &mut table::Table) -> model::Reply {
     let last = table::last(query);
     let e = random::between(seed, 0, last);
-    let fault = random::below(seed, 7);
+    let at = table::times(4, e);
+    let kind = table::at(table::numbers(query), at);
+    let fault = random::below(seed, 8);
     if fault < 4 {
-        return in_entry(query, e, fault);
+        return in_entry(seed, query, e, kind, fault);
+    }
+    if (fault == 7) & (0 < other(kind)) {
+        table::put(query, at, other(kind));
+        return reply(13, e);
     }
     at_end(query, last, fault)
 }

@@ -1,5 +1,6 @@
 // For each entry of a query the table of all its pairs, each pair by its definition from the tables of the operands. A node
-// expression is the pairs (x, x) of the nodes x where it holds. A query of e entries over n nodes costs at most e × n × n × n.
+// expression is the pairs (x, x) of the nodes x where it holds. A closure is found by a search from each node. A query of e entries over n
+// nodes costs at most e × n × n × n.
 use super::indexing;
 use harness::table;
 
@@ -10,6 +11,11 @@ pub const DOCUMENT: usize = 65534;
 pub const ANY_NODE: usize = 65534;
 
 pub const STAR: usize = 65535;
+
+// The kinds of document 02, §9: the star of a path, which is its closure, and `same`. A star is a name test everywhere else here.
+pub const CLOSURE: usize = 13;
+
+pub const SAME: usize = 14;
 
 // For each of 64 entries, the pairs (x, y) of 256 nodes.
 pub type Pairs = [u8; 4194304];
@@ -23,6 +29,14 @@ fn related(pairs: &Pairs, e: usize, x: usize, y: usize) -> bool {
         }
     }
     false
+}
+
+// The pair (x, y), or (y, x) where back is set, is in entry e.
+fn turned(pairs: &Pairs, e: usize, back: bool, x: usize, y: usize) -> bool {
+    if back {
+        return related(pairs, e, y, x);
+    }
+    related(pairs, e, x, y)
 }
 
 fn relate(pairs: &mut Pairs, e: usize, x: usize, y: usize, holds: bool) {
@@ -152,6 +166,11 @@ fn on_axis(tree: &[u16], axis: usize, x: usize, y: usize) -> bool {
     is_descendant(tree, y, x)
 }
 
+// Node 0 is a document node.
+pub fn has_document(tree: &table::Table) -> bool {
+    indexing::tag_of(table::numbers(tree), 0) == DOCUMENT
+}
+
 // A node with a tag passes a name test: `node()` passes every node, the star all but a document node, and a tag the nodes that
 // have it.
 fn passes(test: usize, tag: usize) -> bool {
@@ -174,11 +193,19 @@ fn is_step(tree: &[u16], axis: usize, test: usize, x: usize, y: usize) -> bool {
 
 // Kinds.
 
-// Some z has (x, z) in entry l and (z, y) in entry r.
-fn is_composed(pairs: &Pairs, n: usize, l: usize, r: usize, x: usize, y: usize) -> bool {
+// Some z has (x, z) in entry l and (z, y), or (y, z) where back is set, in entry r.
+fn is_composed(
+    pairs: &Pairs,
+    n: usize,
+    l: usize,
+    r: usize,
+    back: bool,
+    x: usize,
+    y: usize,
+) -> bool {
     let mut z = 0;
     while z < n {
-        if related(pairs, l, x, z) & related(pairs, r, z, y) {
+        if related(pairs, l, x, z) & turned(pairs, r, back, z, y) {
             return true;
         }
         z += 1;
@@ -213,7 +240,7 @@ pub fn has_pair(pairs: &Pairs, e: usize, n: usize) -> bool {
 // The pair (x, y) is in an entry of kind 1 to 5 over the entries l and r.
 fn in_path(pairs: &Pairs, n: usize, kind: usize, l: usize, r: usize, x: usize, y: usize) -> bool {
     if kind == 1 {
-        return is_composed(pairs, n, l, r, x, y);
+        return is_composed(pairs, n, l, r, false, x, y);
     }
     let in_left = related(pairs, l, x, y);
     if kind == 5 {
@@ -229,10 +256,13 @@ fn in_path(pairs: &Pairs, n: usize, kind: usize, l: usize, r: usize, x: usize, y
     in_left & !in_right
 }
 
-// The node x is in an entry of kind 8 to 11 over the entries l and r.
+// The node x is in an entry of kind 8 to 11 or 14 over the entries l and r: of kind 14 if both have a pair (x, z) for some z.
 fn in_expr(pairs: &Pairs, n: usize, kind: usize, l: usize, r: usize, x: usize) -> bool {
     if kind == 8 {
         return is_start(pairs, n, l, x);
+    }
+    if kind == SAME {
+        return is_composed(pairs, n, l, r, true, x, x);
     }
     let in_left = related(pairs, l, x, x);
     if kind == 9 {
@@ -263,7 +293,7 @@ pub fn entry_of(query: &[u16], e: usize) -> model::Entry {
     }
 }
 
-// The pair (x, y) is in an entry with these numbers.
+// The pair (x, y) is in an entry with these numbers; in none of a closure, which is not found pair by pair.
 fn holds(pairs: &Pairs, tree: &[u16], nodes: &[u16], f: model::Entry, x: usize, y: usize) -> bool {
     let n = tree.len() / 2;
     if f.kind == 0 {
@@ -278,7 +308,7 @@ fn holds(pairs: &Pairs, tree: &[u16], nodes: &[u16], f: model::Entry, x: usize, 
     if f.kind == 7 {
         return related(pairs, f.left, 0, y);
     }
-    if x != y {
+    if (x != y) | (f.kind == CLOSURE) {
         return false;
     }
     if f.kind == 12 {
@@ -298,13 +328,85 @@ fn fill_row(pairs: &mut Pairs, tree: &[u16], nodes: &[u16], e: usize, f: model::
     }
 }
 
-fn fill_entry(pairs: &mut Pairs, tree: &[u16], query: &[u16], nodes: &[u16], e: usize) {
+// All pairs of entry e, which has these numbers.
+fn fill_entry(pairs: &mut Pairs, tree: &[u16], nodes: &[u16], e: usize, f: model::Entry) {
     let n = tree.len() / 2;
-    let f = entry_of(query, e);
     let mut x = 0;
     while x < n {
         fill_row(pairs, tree, nodes, e, f, x);
         x += 1;
+    }
+}
+
+// Entry e gets the pair (x, y), and y comes behind the nodes that were found before, unless it is one of them.
+fn find(pairs: &mut Pairs, e: usize, x: usize, y: usize, found: &mut table::Table) {
+    if related(pairs, e, x, y) {
+        return;
+    }
+    relate(pairs, e, x, y, true);
+    table::append(found, y);
+}
+
+// All nodes are found to which entry l leads from the node that was found after i others.
+fn find_from(
+    pairs: &mut Pairs,
+    n: usize,
+    l: usize,
+    e: usize,
+    x: usize,
+    i: usize,
+    found: &mut table::Table,
+) {
+    let z = table::at(table::numbers(found), i);
+    let mut y = 0;
+    while y < n {
+        if related(pairs, l, z, y) {
+            find(pairs, e, x, y, found);
+        }
+        y += 1;
+    }
+}
+
+// The pairs of entry e, the closure of entry l, that start at x, where none is known: x is found, and what is found from the first so
+// many nodes.
+fn search(pairs: &mut Pairs, n: usize, l: usize, e: usize, x: usize, most: usize) {
+    let mut found = [0u16; 1025];
+    find(pairs, e, x, x, &mut found);
+    let mut i = 0;
+    while i < most {
+        if table::length(&found) <= i {
+            return;
+        }
+        find_from(pairs, n, l, e, x, i, &mut found);
+        i += 1;
+    }
+}
+
+// Entry e, which has no pair, becomes the closure of entry l.
+fn close(pairs: &mut Pairs, n: usize, l: usize, e: usize, most: usize) {
+    let mut x = 0;
+    while x < n {
+        search(pairs, n, l, e, x, most);
+        x += 1;
+    }
+}
+
+// From how many nodes the search for a closure goes on: from all that are found, of which there are at most n. Where the right number of
+// the entry, which is 0 in every query that is accepted, is 1, the path is taken once at most.
+fn most(f: model::Entry, n: usize) -> usize {
+    if f.right == 1 {
+        return 1;
+    }
+    n
+}
+
+// The table of entry e.
+fn fill_table(pairs: &mut Pairs, tree: &[u16], query: &[u16], nodes: &[u16], e: usize) {
+    let n = tree.len() / 2;
+    let f = entry_of(query, e);
+    fill_entry(pairs, tree, nodes, e, f);
+    if f.kind == CLOSURE {
+        close(pairs, n, f.left, e, most(f, n));
     }
 }
 
@@ -313,7 +415,7 @@ fn fill_entries(pairs: &mut Pairs, tree: &[u16], query: &[u16], nodes: &[u16]) {
     let entries = query.len() / 4;
     let mut e = 0;
     while e < entries {
-        fill_entry(pairs, tree, query, nodes, e);
+        fill_table(pairs, tree, query, nodes, e);
         e += 1;
     }
 }
@@ -327,14 +429,6 @@ pub fn fill(pairs: &mut Pairs, tree: &table::Table, query: &table::Table, nodes:
 }
 
 // Results.
-
-// The pair (x, y), or (y, x) where back is set, is in entry e.
-fn turned(pairs: &Pairs, e: usize, back: bool, x: usize, y: usize) -> bool {
-    if back {
-        return related(pairs, e, y, x);
-    }
-    related(pairs, e, x, y)
-}
 
 // Some x of the set leads to y.
 fn is_reached(pairs: &Pairs, e: usize, n: usize, back: bool, set: &table::Set, y: usize) -> bool {

@@ -1,11 +1,12 @@
-// The test program's own evaluator, written separately from the engine, straight from document 01 and, for the document node,
-// document 02: pairs, images, answers, and the pages that are due; from document 02 the index of a tree and what is found by one,
+// The test program's own evaluator, written separately from the engine, straight from document 01 and, for the document node, the star
+// of a path and `same`, document 02: pairs, images, answers, and the pages that are due; from document 02 the index of a tree and what is found by one,
 // relations as bits, the rule of quick pages with the evaluations that they make, and what a party sees of a shared table; the random
 // trees, owners, queries and sets that the engine is tried on; and what is refused instead of them.
+pub mod bearing;
 pub mod bit_damage;
 pub mod bit_tables;
+pub mod closing;
 pub mod damage;
-pub mod document;
 pub mod effort;
 pub mod evaluator;
 pub mod index_damage;

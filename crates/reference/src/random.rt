@@ -138,28 +138,28 @@ const PATH: u8 = 1;
 const EXPR: u8 = 2;
 
 // What each kind is, and has for its left and its right operand.
-const RESULT: [u8; 13] = [1, 1, 1, 1, 1, 1, 1, 1, 2, 2, 2, 2, 2];
+const RESULT: [u8; 15] = [1, 1, 1, 1, 1, 1, 1, 1, 2, 2, 2, 2, 2, 1, 2];
 
-const LEFT: [u8; 13] = [0, 1, 1, 1, 1, 1, 0, 1, 1, 2, 2, 2, 0];
+const LEFT: [u8; 15] = [0, 1, 1, 1, 1, 1, 0, 1, 1, 2, 2, 2, 0, 1, 1];
 
-const RIGHT: [u8; 13] = [0, 1, 1, 1, 1, 2, 0, 0, 0, 0, 2, 2, 0];
+const RIGHT: [u8; 15] = [0, 1, 1, 1, 1, 2, 0, 0, 0, 0, 2, 2, 0, 0, 1];
 
 fn result(kind: usize) -> u8 {
-    if kind < 13 {
+    if kind < 15 {
         return RESULT[kind];
     }
     0
 }
 
 pub fn left(kind: usize) -> u8 {
-    if kind < 13 {
+    if kind < 15 {
         return LEFT[kind];
     }
     0
 }
 
 pub fn right(kind: usize) -> u8 {
-    if kind < 13 {
+    if kind < 15 {
         return RIGHT[kind];
     }
     0
@@ -228,6 +228,25 @@ pub fn step(seed: &mut u64) -> model::Entry {
     entry(0, axis, 0, name_test(seed))
 }
 
+// Appends the closure of entry e. If that is a step, it mostly becomes one along child, parent, right or left: those lead further where
+// they are taken again, as most axes do not.
+pub fn append_closure(seed: &mut u64, query: &mut table::Table, e: usize) {
+    let f = evaluator::entry_of(table::numbers(query), e);
+    if (f.kind == 0) & (below(seed, 4) != 0) {
+        let axis = std::num::wrapping_add_usize(table::times(4, e), 1);
+        table::put(query, axis, between(seed, 1, 4));
+    }
+    append(query, entry(evaluator::CLOSURE, e, 0, 0));
+}
+
+// Appends a step and, one time in four, its closure.
+pub fn append_path(seed: &mut u64, query: &mut table::Table) {
+    append(query, step(seed));
+    if below(seed, 4) == 0 {
+        append_closure(seed, query, table::last(query));
+    }
+}
+
 // An entry with no operands: of kind 6 or 12, if asked for and there is a variable, else a step.
 fn leaf(seed: &mut u64, kind: usize, columns: usize) -> model::Entry {
     if kind == 0 {
@@ -268,16 +287,28 @@ fn joint(seed: &mut u64) -> usize {
     k - 1
 }
 
-// The kind of entry e: any of the 13 at first; then such that one path remains, and 13 once it does.
+// Any of the 15 kinds, closure and `same` twice as often as any other.
+fn any_kind(seed: &mut u64) -> usize {
+    let k = below(seed, 17);
+    if k < 15 {
+        return k;
+    }
+    k - 2
+}
+
+// What is chosen in place of a kind once the query is whole.
+const WHOLE: usize = 15;
+
+// The kind of entry e: any at first; then such that one path remains.
 fn choose(seed: &mut u64, free: &[u8; 64], e: usize, grown: usize) -> usize {
     if e < grown {
-        return below(seed, 13);
+        return any_kind(seed);
     }
     let paths = count(free, PATH);
     let exprs = count(free, EXPR);
     if exprs == 0 {
         if paths == 1 {
-            return 13;
+            return WHOLE;
         }
         return joint(seed);
     }
@@ -300,12 +331,16 @@ fn grow(
     columns: usize,
 ) -> bool {
     let kind = choose(seed, free, e, grown);
-    if kind == 13 {
+    if kind == WHOLE {
         return false;
     }
     let f = make_entry(seed, free, kind, columns);
-    append(query, f);
     mark(free, e, result(f.kind));
+    if f.kind == evaluator::CLOSURE {
+        append_closure(seed, query, f.left);
+        return true;
+    }
+    append(query, f);
     true
 }
 

@@ -1,5 +1,5 @@
-// The rule of document 02, §7, for quick pages: no variable stands in both operands of a compose, a filter or an `and`, and none
-// stands under an intersect, an except or a `not`. Straight from the document: whether a variable stands in an entry is asked of its
+// The rule of document 02, §7 and §9, for quick pages: no variable stands in both operands of a compose, a filter or an `and`, and none
+// stands under an intersect, an except, a `not`, a closure or a `same`. Straight from the document: whether a variable stands in an entry is asked of its
 // operands, and of theirs.
 use super::damage;
 use super::evaluator;
@@ -45,9 +45,13 @@ fn keeps_apart(kind: usize) -> bool {
     (kind == 1) | (kind == 5) | (kind == 10)
 }
 
-// A kind under which no variable may stand: intersect, except, `not`.
+// A kind under which no variable may stand: intersect, except, `not`, closure, `same`.
 fn keeps_out(kind: usize) -> bool {
-    (kind == 3) | (kind == 4) | (kind == 9)
+    (kind == 3)
+        | (kind == 4)
+        | (kind == 9)
+        | (kind == evaluator::CLOSURE)
+        | (kind == evaluator::SAME)
 }
 
 // Entry e breaks the rule by variable k.

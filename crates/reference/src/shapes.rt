@@ -1,5 +1,6 @@
 // Deep queries: up to 32 steps and variables, joined by compositions and set operations, in balance or one after the other, leftwards
-// and rightwards.
+// and rightwards, with closures and `same` between as far as there is room.
+use super::closing;
 use super::random;
 use harness::table;
 
@@ -47,11 +48,13 @@ fn append_joins(seed: &mut u64, query: &mut table::Table, form: usize, k: usize)
 
 // Makes a query of k leaves, 1 to 32, over so many variables; one of three is in balance, and one of four goes from the root.
 pub fn make(seed: &mut u64, query: &mut table::Table, k: usize, columns: usize) {
-    table::set_length(query, 0);
-    append_leaves(seed, query, k, columns);
+    let mut plain = [0u16; 1025];
+    append_leaves(seed, &mut plain, k, columns);
     let form = random::below(seed, 6) % 4;
-    append_joins(seed, query, form, k);
+    append_joins(seed, &mut plain, form, k);
+    let p = table::last(&plain);
     if random::below(seed, 4) == 0 {
-        random::append(query, random::entry(7, table::last(query), 0, 0));
+        random::append(&mut plain, random::entry(7, p, 0, 0));
     }
+    closing::copy(seed, &plain, query);
 }

@@ -44,10 +44,10 @@ fn filter(seed: &mut u64, query: &mut table::Table, k: usize, columns: usize, ke
     random::append(query, random::entry(5, p, table::last(query), 0));
 }
 
-// The query goes one step on.
+// The query goes on by a path.
 fn go_on(seed: &mut u64, query: &mut table::Table) {
     let p = table::last(query);
-    random::append(query, random::step(seed));
+    random::append_path(seed, query);
     random::append(query, random::entry(1, p, table::last(query), 0));
 }
 
@@ -59,7 +59,7 @@ fn variable(k: usize, columns: usize) -> usize {
     std::num::wrapping_sub_usize(k, columns)
 }
 
-// The query is filtered for each variable, with a step between: as P[. is $1]/child::*[. is $0].
+// The query is filtered for each variable, with a path between: as P[. is $1]/child::*[. is $0].
 fn end_in_filters(seed: &mut u64, query: &mut table::Table, columns: usize, keeps: bool) {
     let start = random::below(seed, columns);
     filter(seed, query, start, columns, keeps);
@@ -85,7 +85,7 @@ fn steer(seed: &mut u64, query: &mut table::Table, columns: usize) {
 fn keep(seed: &mut u64, query: &mut table::Table, columns: usize) {
     end_in_filters(seed, query, columns, true);
     let p = table::last(query);
-    if (p < 28) & (random::below(seed, 3) == 0) {
+    if (p < 20) & (random::below(seed, 3) == 0) {
         random::append(query, random::step(seed));
         end_in_filters(seed, query, columns, true);
         random::append(query, random::entry(2, p, table::last(query), 0));

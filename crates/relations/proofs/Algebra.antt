@@ -1,13 +1,13 @@
 -- Laws of relations that are made one from the other, and of the words in which they stand.
-use Prim.Native.Nat.{ℕ, _≤_, _<_}
+use Prim.Native.Nat.{ℕ, zero, suc, _≤_, _<_}
 use native.Mathlib.Omega.{arith}
 use mathlib.Core.Path.{_≡_, refl, sym, ap, ap₂, _∙_}
-use mathlib.Core.Bool.{Bool, true, false, _&&_, and-assoc}
+use mathlib.Core.Bool.{Bool, true, false, _&&_, _||_, and-assoc}
 use mathlib.Core.List.{List}
 use lib.Dec.{ltb, eqb}
-use borrow.Author.Tests.{ltb-true, lt-ltb, eqb-true, eq-eqb}
-use Rattle.model.specs.Sets.{any, upto}
-use Rattle.model.proofs.Booleans.{bool-ext, both-yes, yes-left, yes-right}
+use borrow.Author.Tests.{ltb-true, ltb-false, lt-ltb, eqb-true, eq-eqb, ne-eqb}
+use Rattle.model.specs.Sets.{any, upto, via, closed}
+use Rattle.model.proofs.Booleans.{Seen, yes!, no!, seen, bool-ext, both-yes, yes-left, yes-right}
 use Rattle.model.proofs.Exists.{any-intro, any-elim, any-cong, any-and, and-any, any-swap, any-one}
 use Rattle.bits.specs.Words.{words, hasBit}
 use Rattle.bits.specs.Rows.{Becomes, within, diagonal, composed, startingIn}
@@ -81,6 +81,29 @@ module _ (n : ℕ) where
   pub composed-one : (B : ℕ → ℕ → Bool) (g x y : ℕ) → g < n → composed n (λ x z. eqb z g) B x y ≡ B g y
   unfolding composed
   composed-one B g x y l = any-one n g (λ z. B z y) l
+
+-- the closure of the pairs that end below n
+
+shared : (c a b d : Bool) → ((c && a) || ((true && b) && (c && d))) ≡ (c && (a || (b && d)))
+shared true a b d = refl
+shared false a true d = refl
+shared false a false d = refl
+
+module _ (n : ℕ) (A B : ℕ → ℕ → Bool) (le : n ≤ 256) (f : (x y : ℕ) → x < n → y < 256 → A x y ≡ within n B x y) where
+  via-within : (k : ℕ) → k ≤ n → (x y : ℕ) → x < n → y < 256 → via A k x y ≡ (ltb y n && via B k x y)
+  unfolding via
+  via-within zero m x y lx ly = ap (λ (c : Bool). eqb x y || c) (f x y lx ly) ∙ go (seen (ltb y n))
+    where
+      go : Seen (ltb y n) → (eqb x y || (ltb y n && B x y)) ≡ (ltb y n && (eqb x y || B x y))
+      go (yes! p) = rw p
+      go (no! p) = rw (p, ne-eqb x y (λ e. let l : n ≤ y = ltb-false y n p in omega arith))
+  via-within (suc k) m x y lx ly =
+      ap₂ (λ (b c : Bool). b || c) (via-within k (omega arith) x y lx ly)
+      (ap₂ (λ (b c : Bool). b && c) (via-within k (omega arith) x k lx (omega arith) ∙ ap (λ (c : Bool). c && via B k x k) (lt-ltb k n (omega arith))) (via-within k (omega arith) k y (omega arith) ly))
+      ∙ shared (ltb y n) (via B k x y) (via B k x k) (via B k k y)
+
+  pub closed-within : (x y : ℕ) → x < n → y < 256 → closed n A x y ≡ within n (closed n B) x y
+  closed-within x y lx ly = via-within n (omega arith) x y lx ly
 
 -- some pair
 pub any-within : (n : ℕ) (f : ℕ → Bool) → n ≤ 256 → any 256 (λ y. ltb y n && f y) ≡ any n f

@@ -2,34 +2,38 @@
 use Prim.Native.Nat.{ℕ, _-_, _≤_, _<_}
 use native.Mathlib.Omega.{arith}
 use mathlib.Core.Path.{_≡_, refl, sym, ap, ap₂, _∙_}
+use mathlib.Core.Logic.{⊎-elim}
 use mathlib.Core.Bool.{Bool, true, false, cond, not, _&&_, _||_}
 use mathlib.Core.List.{List}
 use lib.Dec.{ltb, eqb}
-use borrow.Author.Tests.{ltb-true, lt-ltb, eqb-true}
+use borrow.Author.Tests.{ltb-true, lt-ltb, eqb-true, ne-eqb}
 use Rattle.model.specs.declared.Entry.{Entry}
-use Rattle.model.specs.Sets.{any, upto}
+use Rattle.model.specs.Sets.{any, upto, closed}
 use Rattle.model.specs.Tree.{treeOf, sizeOf}
 use Rattle.model.specs.Axes.{steps}
 use Rattle.model.specs.Meaning.{pairsOver, holdsOver}
 use Rattle.model.specs.QueryTable.{kind, left, right, entry, entriesOf}
-use Rattle.model.specs.Checks.{leftPath, leftExpr, rightExpr}
+use Rattle.model.specs.Kinds.{isPath, leftPath, leftExpr, rightExpr}
 use Rattle.model.specs.Results.{assigned, related}
-use Rattle.model.proofs.Booleans.{Seen, yes!, no!, seen}
+use Rattle.model.proofs.Booleans.{Seen, yes!, no!, seen, or-left}
 use Rattle.model.proofs.Exists.{any-cong}
+use Rattle.model.proofs.KindTests.{is-path-by}
 use Rattle.model.proofs.Axes.{eqb-comm}
 use Rattle.model.proofs.QueryTable.{at-step, at-variable, at-exists, at-negate, at-both, at-either, at-is}
 use Rattle.sets.specs.NodeSets.{always, only, combine}
 use Rattle.sets.proofs.Images.{combine-within}
 use Rattle.eval.specs.Evaluation.{Ready, passing}
 use Rattle.eval.proofs.Calls.{variable-named, is-named, variable-node}
-use Rattle.eval.proofs.Entries.{small, path-left, expr-left, expr-right, is-compose, is-filter, is-joined, is-root}
+use Rattle.eval.proofs.Entries.{small, path-left, expr-left, expr-right, is-compose, is-filter, is-joined, is-root, is-closure, is-same}
+use Rattle.aside.specs.Aside.{twoTables}
+use Rattle.aside.proofs.Turns.{two-kinds}
 use Rattle.bits.specs.Words.{words, hasBit}
 use Rattle.bits.specs.BitTables.{bitRelation}
 use Rattle.bits.specs.Rows.{Becomes, within, diagonal, composed, startingIn, endingIn, fromNode, hasPair}
 use Rattle.bits.proofs.Words.{words-cong}
 use Rattle.tables.specs.Tables.{joined, mergedSets}
-use Rattle.relations.specs.Evaluation.{tableAt, appliedAt, passedBits, Leaves}
-use Rattle.relations.proofs.Algebra.{leaves, leaves-on, becomes-on, composed-cong, composed-from, composed-diagonal, composed-within, composed-on, composed-starting, composed-one, any-within, set-bit, set-node}
+use Rattle.relations.specs.Evaluation.{operation, tableAt, joinedAt, appliedAt, passedBits, Leaves}
+use Rattle.relations.proofs.Algebra.{leaves, leaves-on, leaves-none, becomes-on, composed-cong, composed-from, composed-diagonal, composed-within, composed-on, composed-starting, composed-one, closed-within, any-within, set-bit, set-node}
 
 both-within : (c a b : Bool) → ((c && a) && (c && b)) ≡ (c && (a && b))
 both-within true a b = refl
@@ -80,6 +84,10 @@ module _ {t v q nodes : List ℕ} {e : ℕ} {f : Entry} (fe : f ≡ entry q e) (
   unfolding related pairsOver
   rel-root k x y = rw (is-root fe ok em k)
 
+  rel-closure : f .kind ≡ 13 → (x y : ℕ) → rel e x y ≡ closed (sizeOf t) (rel (f .left)) x y
+  unfolding related pairsOver
+  rel-closure k x y = rw (is-closure fe ok em k)
+
   rel-joined : 2 ≤ f .kind → f .kind ≤ 4 → (x y : ℕ) → rel e x y ≡ combine (f .kind - 2) (rel (f .left) x y) (rel (f .right) x y)
   rel-joined l h x y = rw fe (is-joined ok em false x y (rw fe at l) (rw fe at h))
 
@@ -119,9 +127,44 @@ module _ {t v q nodes : List ℕ} {e : ℕ} {f : Entry} (fe : f ≡ entry q e) (
     did-variable g b a h k = let l : g < sizeOf t = rw h (variable-node fe ok em (variable-named k)) in becomes-on (leaves a) b (λ x y lx ly.
         a .bits g y l ly ∙ eqb-comm g y ∙ sym (ap (λ (c : Bool). ltb y (sizeOf t) && c) (rel-variable k x y ∙ ap (eqb y) (sym h)) ∙ one-below (sizeOf t) g y l))
 
+    pub did-closure : Becomes (sizeOf t) (closed (sizeOf t) (bitRelation o)) o p → Becomes (sizeOf t) (tableAt t q nodes (f .left)) w o → f .kind ≡ 13 → Becomes (sizeOf t) (tableAt t q nodes e) w p
+    unfolding tableAt
+    did-closure b a k = becomes-on (leaves a) b (λ x y lx ly.
+        closed-within (sizeOf t) (bitRelation o) (rel (f .left)) le (a .bits) x y lx ly ∙ ap (λ (c : Bool). ltb y (sizeOf t) && c) (sym (rel-closure k x y)))
+
     pub did-root : Becomes (sizeOf t) (fromNode 0 (bitRelation o)) o p → Becomes (sizeOf t) (tableAt t q nodes (f .left)) w o → f .kind ≡ 7 → Becomes (sizeOf t) (tableAt t q nodes e) w p
     unfolding tableAt
     did-root b a k = becomes-on (leaves a) b (λ x y lx ly. a .bits 0 y some ly ∙ ap (λ (c : Bool). ltb y (sizeOf t) && c) (sym (rel-root k x y)))
+
+  -- what stands in the table of an operation on two tables, of a path and of `same`
+
+  pub joined-path : isPath (f .kind) ≡ true → (x y : ℕ) → joinedAt t q nodes e x y ≡ tableAt t q nodes e x y
+  unfolding joinedAt
+  joined-path h x y = rw (rw fe at h)
+
+  joined-same : isPath (f .kind) ≡ false → (x y : ℕ) → joinedAt t q nodes e x y ≡ combine 1 (tableAt t q nodes (f .left) x y) (tableAt t q nodes (f .right) x y)
+  unfolding joinedAt
+  joined-same h x y = rw (rw fe at h, fe)
+
+  path-operated : 2 ≤ f .kind → f .kind ≤ 4 → (x y : ℕ) → combine (operation (f .kind)) (tableAt t q nodes (f .left) x y) (tableAt t q nodes (f .right) x y) ≡ joinedAt t q nodes e x y
+  unfolding tableAt
+  path-operated l h x y =
+      rw (ne-eqb (f .kind) 14 (λ z. omega arith)) (combine-within (f .kind - 2) (ltb y (sizeOf t)) (rel (f .left) x y) (rel (f .right) x y)
+      ∙ ap (λ (c : Bool). ltb y (sizeOf t) && c) (sym (rel-joined l h x y)))
+      ∙ sym (joined-path (is-path-by (f .kind) ∙ or-left (ltb (f .kind) 8) (eqb (f .kind) 13) (lt-ltb (f .kind) 8 (omega arith))) x y)
+
+  same-operated : f .kind ≡ 14 → (x y : ℕ) → combine (operation (f .kind)) (tableAt t q nodes (f .left) x y) (tableAt t q nodes (f .right) x y) ≡ joinedAt t q nodes e x y
+  unfolding isPath
+  same-operated k x y = ap (λ (m : ℕ). combine (operation m) (tableAt t q nodes (f .left) x y) (tableAt t q nodes (f .right) x y)) k ∙ sym (joined-same (rw k) x y)
+
+  operated : (op : ℕ) → op ≡ operation (f .kind) → twoTables (f .kind) ≡ true → (f .kind ≡ 1 → ⊥) → (x y : ℕ) → combine op (tableAt t q nodes (f .left) x y) (tableAt t q nodes (f .right) x y) ≡ joinedAt t q nodes e x y
+  operated op g h n x y = ap (λ (m : ℕ). combine m (tableAt t q nodes (f .left) x y) (tableAt t q nodes (f .right) x y)) g ∙ ⊎-elim by-path by-same (two-kinds (f .kind) h)
+    where
+      by-path : (0 < f .kind) × (f .kind < 5) → combine (operation (f .kind)) (tableAt t q nodes (f .left) x y) (tableAt t q nodes (f .right) x y) ≡ joinedAt t q nodes e x y
+      by-path w = path-operated (omega (arith, w .0)) (omega (arith, w .1)) x y
+
+      by-same : f .kind ≡ 14 → combine (operation (f .kind)) (tableAt t q nodes (f .left) x y) (tableAt t q nodes (f .right) x y) ≡ joinedAt t q nodes e x y
+      by-same k = same-operated k x y
 
   -- an operation on two tables, from the first, which was kept aside, and the second
 
@@ -131,27 +174,25 @@ module _ {t v q nodes : List ℕ} {e : ℕ} {f : Entry} (fe : f ≡ entry q e) (
     first-bit x y lx ly = c .bits x y lx ly ∙ a x y lx ly
 
     pub did-tables : {u : List ℕ} (k₂ : List ℕ) → Becomes (sizeOf t) (bitRelation k₂) p u → Becomes (sizeOf t) (composed (sizeOf t) (bitRelation k) (bitRelation p)) k k₂ → i ≡ f .left → j ≡ f .right → f .kind ≡ 1
-        → Becomes (sizeOf t) (tableAt t q nodes e) w u
-    unfolding tableAt
+        → Becomes (sizeOf t) (joinedAt t q nodes e) w u
+    unfolding tableAt isPath
     did-tables {u} k₂ g d ei ej h = becomes-on (leaves b) g (λ x y lx ly.
         d .bits x y lx ly
         ∙ composed-cong (sizeOf t) (bitRelation k) (bitRelation p) (rel (f .left)) (within (sizeOf t) (rel (f .right))) x y
         (λ z l. first-bit x z lx (omega arith) ∙ within-node (sizeOf t) (rel i x z) z l ∙ ap (λ (l : ℕ). rel l x z) ei)
         (λ z l. b .bits z y l ly ∙ ap (λ (l : ℕ). within (sizeOf t) (rel l) z y) ej)
         ∙ composed-within (sizeOf t) (rel (f .left)) (rel (f .right)) x y
-        ∙ ap (λ (c : Bool). ltb y (sizeOf t) && c) (sym (rel-compose h x y)))
+        ∙ ap (λ (c : Bool). ltb y (sizeOf t) && c) (sym (rel-compose h x y))
+        ∙ sym (joined-path (rw h) x y))
 
     pub did-combine : {u : List ℕ} (op : ℕ) (turned : Bool) → Becomes (sizeOf t) (joined op turned (bitRelation k) (bitRelation p)) p u → i ≡ cond turned (f .right) (f .left) → j ≡ cond turned (f .left) (f .right)
-        → op ≡ f .kind - 2 → 2 ≤ f .kind → f .kind ≤ 4 → Becomes (sizeOf t) (tableAt t q nodes e) w u
-    unfolding tableAt
-    did-combine {u} op true d ei ej g l h = becomes-on (leaves b) d (λ x y lx ly.
-        ap₂ (combine op) (b .bits x y lx ly ∙ ap (λ (l : ℕ). within (sizeOf t) (rel l) x y) ej) (first-bit x y lx ly ∙ ap (λ (l : ℕ). within (sizeOf t) (rel l) x y) ei)
-        ∙ combine-within op (ltb y (sizeOf t)) (rel (f .left) x y) (rel (f .right) x y)
-        ∙ ap (λ (c : Bool). ltb y (sizeOf t) && c) (ap (λ (m : ℕ). combine m (rel (f .left) x y) (rel (f .right) x y)) g ∙ sym (rel-joined l h x y)))
-    did-combine {u} op false d ei ej g l h = becomes-on (leaves b) d (λ x y lx ly.
-        ap₂ (combine op) (first-bit x y lx ly ∙ ap (λ (l : ℕ). within (sizeOf t) (rel l) x y) ei) (b .bits x y lx ly ∙ ap (λ (l : ℕ). within (sizeOf t) (rel l) x y) ej)
-        ∙ combine-within op (ltb y (sizeOf t)) (rel (f .left) x y) (rel (f .right) x y)
-        ∙ ap (λ (c : Bool). ltb y (sizeOf t) && c) (ap (λ (m : ℕ). combine m (rel (f .left) x y) (rel (f .right) x y)) g ∙ sym (rel-joined l h x y)))
+        → op ≡ operation (f .kind) → twoTables (f .kind) ≡ true → (f .kind ≡ 1 → ⊥) → Becomes (sizeOf t) (joinedAt t q nodes e) w u
+    did-combine {u} op true d ei ej g h n = becomes-on (leaves b) d (λ x y lx ly.
+        ap₂ (combine op) (b .bits x y lx ly ∙ ap (λ (l : ℕ). tableAt t q nodes l x y) ej) (c .bits x y lx ly ∙ a x y lx ly ∙ ap (λ (l : ℕ). tableAt t q nodes l x y) ei)
+        ∙ operated op g h n x y)
+    did-combine {u} op false d ei ej g h n = becomes-on (leaves b) d (λ x y lx ly.
+        ap₂ (combine op) (c .bits x y lx ly ∙ a x y lx ly ∙ ap (λ (l : ℕ). tableAt t q nodes l x y) ei) (b .bits x y lx ly ∙ ap (λ (l : ℕ). tableAt t q nodes l x y) ej)
+        ∙ operated op g h n x y)
 
   -- a path composed with a table
 
@@ -194,6 +235,10 @@ module _ {t v q nodes : List ℕ} {e : ℕ} {f : Entry} (fe : f ≡ entry q e) (
   unfolding passing related holdsOver leftPath
   holds-exists k x = rw (fe, at-exists q e (rw fe at k) (path-left fe ok em (rw k)))
 
+  holds-same : f .kind ≡ 14 → (x : ℕ) → passing t q nodes e x ≡ any (sizeOf t) (λ y. rel (f .left) x y && rel (f .right) x y)
+  unfolding passing related holdsOver
+  holds-same k x = rw (is-same fe ok em k)
+
   holds-negate : f .kind ≡ 9 → (x : ℕ) → passing t q nodes e x ≡ not (passing t q nodes (f .left) x)
   unfolding passing holdsOver leftExpr
   holds-negate k x = rw (fe, at-negate q e (rw fe at k) (expr-left fe ok em (rw k)))
@@ -227,10 +272,19 @@ module _ {t v q nodes : List ℕ} {e : ℕ} {f : Entry} (fe : f ≡ entry q e) (
       p ∙ words-cong 4 _ _ (λ y l. ap₂ (combine op) (set-bit (sizeOf t) H a g y (omega arith)) (set-bit (sizeOf t) K b h y (omega arith)) ∙ combine-within op (ltb y (sizeOf t)) (H y) (K y))
       ∙ set-cong (λ x. combine op (H x) (K x)) f
 
+  -- where a table has a pair
+  starting : (R : ℕ → ℕ → Bool) {w o : List ℕ} (r : List ℕ) → r ≡ words 4 (upto (sizeOf t) (hasPair (bitRelation o))) → Becomes (sizeOf t) (within (sizeOf t) R) w o
+      → ((x : ℕ) → passing t q nodes e x ≡ any (sizeOf t) (R x)) → r ≡ passedBits t q nodes e
+  starting R {w} {o} r p a h = p ∙ set-cong (hasPair (bitRelation o)) (λ x l. any-cong 256 _ _ (λ y ly. a .bits x y l ly) ∙ any-within (sizeOf t) (R x) le ∙ sym (h x))
+
   pub did-exists : {w o : List ℕ} (r : List ℕ) → r ≡ words 4 (upto (sizeOf t) (hasPair (bitRelation o))) → Becomes (sizeOf t) (tableAt t q nodes (f .left)) w o → f .kind ≡ 8 → r ≡ passedBits t q nodes e
   unfolding tableAt
-  did-exists {w} {o} r p a k = p ∙ set-cong (hasPair (bitRelation o)) (λ x l.
-      any-cong 256 _ _ (λ y ly. a .bits x y l ly) ∙ any-within (sizeOf t) (rel (f .left) x) le ∙ sym (holds-exists k x))
+  did-exists r p a k = starting (rel (f .left)) r p a (holds-exists k)
+
+  pub did-same : {w o : List ℕ} (r : List ℕ) → r ≡ words 4 (upto (sizeOf t) (hasPair (bitRelation o))) → Becomes (sizeOf t) (joinedAt t q nodes e) w o → f .kind ≡ 14 → r ≡ passedBits t q nodes e
+  unfolding tableAt isPath combine
+  did-same r p a k = starting (λ x y. rel (f .left) x y && rel (f .right) x y) r p
+      (becomes-on leaves-none a (λ x y lx ly. joined-same (rw k) x y ∙ both-within (ltb y (sizeOf t)) (rel (f .left) x y) (rel (f .right) x y))) (holds-same k)
 
   pub did-negate : (a b r : List ℕ) → r ≡ words 4 (mergedSets 2 a b) → a ≡ words 4 (upto (sizeOf t) (always true)) → b ≡ passedBits t q nodes (f .left) → f .kind ≡ 9 → r ≡ passedBits t q nodes e
   unfolding passedBits combine

@@ -2,7 +2,7 @@
 use Prim.Native.Nat.{ℕ, _+_, _*_, _/_, _%_, _^_, _≤_, _<_}
 use native.Mathlib.Omega.{arith}
 use mathlib.Core.Path.{_≡_, refl}
-use mathlib.Core.Bool.{false}
+use mathlib.Core.Bool.{true, false}
 use mathlib.Core.List.{List, _++_}
 use lib.ListN.{length, getD, drop}
 use borrow.Author.Tests.{ltb-false}
@@ -36,12 +36,12 @@ last-counted t q nodes counts c a = c .at (lastOf q) (a .last)
 
 -- what the last entry asks for, with room for so many tables
 pub ask-last : (t prev q nodes counts acc : List ℕ) (room : ℕ) → Tables t q nodes → PreviousSiblings (treeOf t) (sizeOf t) prev → Shaped q → Counts q counts → getD counts (lastOf q) 0 ≤ room
-    → 4 * sizeOf t ≤ length acc → Asks t prev q nodes counts room (lastOf q) 0 7 0 acc
+    → 4 * sizeOf t ≤ length acc → Asks t prev q nodes counts room (lastOf q) true 0 acc
 ask-last t prev q nodes counts acc room a p s c l h = record {
   ready = record { linked = record { tree = a .tree; siblings = p }; query = a .query };
   shaped = s;
   counted = c;
-  kinds = record { within = a .last; least = omega arith; most = omega (arith, a .path) };
+  kinds = record { within = a .last; sort = a .path };
   table = h;
   fits = omega (arith, last-counted t q nodes counts c a);
 }

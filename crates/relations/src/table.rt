@@ -4,10 +4,10 @@
 // 64 entries keep five aside at most (crate `aside`), and a step and a run of steps none.
 //
 // A composition takes its left operand along where there is room: a step is composed with a whole table in a few passes over its rows,
-// and so is a run of steps and filters, from its end to its start. Only where a set operation stands on the left are two tables
-// composed. The functions call each other, the entry number falling; a level of calls takes some hundred bytes and no table.
+// and so is a run of steps and filters, from its end to its start. Only where a set operation or a star stands on the left are two
+// tables composed. The functions call each other, the entry number falling; a level of calls takes some hundred bytes and no table.
 ghost use mathlib.Core.Path.{_≡_};
-ghost use mathlib.Core.Bool.{cond};
+ghost use mathlib.Core.Bool.{true, false, cond};
 ghost use Prim.Native.Nat.{_+_, _*_, _≤_, _<_};
 ghost use lib.ListN.{length};
 ghost use Rattle.model.specs.Tree.{sizeOf};
@@ -15,7 +15,7 @@ ghost use Rattle.model.specs.Results.{assigned};
 ghost use Rattle.eval.specs.Evaluation.{passing};
 ghost use Rattle.bits.specs.BitTables.{bitRelation};
 ghost use Rattle.bits.specs.Rows.{Becomes, startingIn};
-ghost use Rattle.relations.specs.Evaluation.{Asks, Waits, tableAt, appliedAt, passedBits, Leaves};
+ghost use Rattle.relations.specs.Evaluation.{Asks, Joins, Waits, operation, tableAt, joinedAt, appliedAt, passedBits, Leaves};
 
 // One entry or the other.
 fn choose(b: bool, x: usize, y: usize) -> usize
@@ -35,6 +35,17 @@ fn variable(nodes: &[u16], k: usize) -> usize
     model::wide(nodes[k])
 }
 
+// How the tables of two operands are combined, by the kind.
+fn operation(k: usize) -> u8
+    requires { ⌜ (2 ≤ k) × (k ≤ 14) ⌝ }
+    ensures { λ r. ⌜ r ≡ operation k ⌝ }
+{
+    if k == 14 {
+        return sets::INTERSECTION;
+    }
+    (k - 2) as u8
+}
+
 // The table of the path at entry e.
 pub fn table(
     tree: &[u16],
@@ -46,7 +57,7 @@ pub fn table(
     e: usize,
     acc: &mut [u64],
 )
-    requires { ⌜ Asks (now tree) (now prev) (now query) (now nodes) (now counts) room e 0 7 0 (now acc) ⌝ }
+    requires { ⌜ Asks (now tree) (now prev) (now query) (now nodes) (now counts) room e true 0 (now acc) ⌝ }
     ensures { λ _.
         ⌜
         Becomes (sizeOf (now (tree .entry)))
@@ -80,12 +91,42 @@ pub fn table(
         tables::spread(acc, n, 0);
         return;
     }
+    if k == 13 {
+        table(tree, prev, query, nodes, counts, room, l, acc);
+        tables::close(acc, n);
+        return;
+    }
     let spare = (k == 1) & ((counts[l] as usize) < room);
     if spare {
         table(tree, prev, query, nodes, counts, room, r, acc);
         apply(tree, prev, query, nodes, counts, room, l, acc);
         return;
     }
+    operands(tree, prev, query, nodes, counts, room, e, acc);
+}
+
+// The table of the operation on two tables at entry e, a path or `same`. The operand that keeps more aside goes first.
+fn operands(
+    tree: &[u16],
+    prev: &[u16],
+    query: &[u16],
+    nodes: &[u16],
+    counts: &[u8],
+    room: usize,
+    e: usize,
+    acc: &mut [u64],
+)
+    requires { ⌜ Joins (now tree) (now prev) (now query) (now nodes) (now counts) room e (now acc) ⌝ }
+    ensures { λ _.
+        ⌜
+        Becomes (sizeOf (now (tree .entry)))
+        (joinedAt (now (tree .entry)) (now (query .entry)) (now (nodes .entry)) e)
+        (now (acc .entry)) (now (acc .exit))
+        ⌝ }
+{
+    let f = query::entry_at(query, e);
+    let l = f.left;
+    let r = f.right;
     let turned = counts[l] < counts[r];
     let first = choose(turned, r, l);
     table(tree, prev, query, nodes, counts, room, first, acc);
@@ -108,7 +149,7 @@ fn second(
     ensures { λ _.
         ⌜
         Becomes (sizeOf (now (tree .entry)))
-        (tableAt (now (tree .entry)) (now (query .entry)) (now (nodes .entry)) e)
+        (joinedAt (now (tree .entry)) (now (query .entry)) (now (nodes .entry)) e)
         (now (acc .entry)) (now (acc .exit))
         ⌝ }
 {
@@ -124,11 +165,10 @@ fn second(
         tables::copy(acc, &kept, n);
         return;
     }
-    let op = (k - 2) as u8;
-    tables::combine(acc, &kept, n, op, turned);
+    tables::combine(acc, &kept, n, operation(k), turned);
 }
 
-// The path at entry e composed with the table that stands in acc.
+// The path at entry e composed with the table that stands in acc. Of a set operation and of a star the whole table is made.
 fn apply(
     tree: &[u16],
     prev: &[u16],
@@ -139,7 +179,7 @@ fn apply(
     e: usize,
     acc: &mut [u64],
 )
-    requires { ⌜ Asks (now tree) (now prev) (now query) (now nodes) (now counts) room e 0 7 1 (now acc) ⌝ }
+    requires { ⌜ Asks (now tree) (now prev) (now query) (now nodes) (now counts) room e true 1 (now acc) ⌝ }
     ensures { λ _.
         ⌜
         Becomes (sizeOf (now (tree .entry)))
@@ -160,7 +200,8 @@ fn apply(
         apply(tree, prev, query, nodes, counts, room, l, acc);
         return;
     }
-    if k < 5 {
+    let whole = (k < 5) | (k == 13);
+    if whole {
         product(tree, prev, query, nodes, counts, room, e, acc);
         return;
     }
@@ -188,7 +229,7 @@ fn product(
     e: usize,
     acc: &mut [u64],
 )
-    requires { ⌜ Asks (now tree) (now prev) (now query) (now nodes) (now counts) room e 0 7 1 (now acc) ⌝ }
+    requires { ⌜ Asks (now tree) (now prev) (now query) (now nodes) (now counts) room e true 1 (now acc) ⌝ }
     ensures { λ _.
         ⌜
         Becomes (sizeOf (now (tree .entry)))
@@ -214,7 +255,7 @@ fn keep(
     e: usize,
     acc: &mut [u64],
 )
-    requires { ⌜ Asks (now tree) (now prev) (now query) (now nodes) (now counts) room e 8 12 1 (now acc) ⌝ }
+    requires { ⌜ Asks (now tree) (now prev) (now query) (now nodes) (now counts) room e false 1 (now acc) ⌝ }
     ensures { λ _.
         ⌜
         Becomes (sizeOf (now (tree .entry)))
@@ -241,7 +282,7 @@ fn node(
     e: usize,
     acc: &mut [u64],
 ) -> [u64; 4]
-    requires { ⌜ Asks (now tree) (now prev) (now query) (now nodes) (now counts) room e 8 12 0 (now acc) ⌝ }
+    requires { ⌜ Asks (now tree) (now prev) (now query) (now nodes) (now counts) room e false 0 (now acc) ⌝ }
     ensures { λ r.
         ⌜
         (r ≡ passedBits (now (tree .entry)) (now (query .entry)) (now (nodes .entry)) e)
@@ -258,6 +299,10 @@ fn node(
     }
     if k == 12 {
         return tables::set::single(variable(nodes, l));
+    }
+    if k == 14 {
+        operands(tree, prev, query, nodes, counts, room, e, acc);
+        return tables::starts(acc, n);
     }
     let a = node(tree, prev, query, nodes, counts, room, l, acc);
     if k == 9 {

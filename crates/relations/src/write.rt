@@ -10,8 +10,8 @@ ghost use Rattle.model.specs.Accepted.{Shaped};
 ghost use Rattle.aside.specs.Aside.{asideAt};
 ghost use Rattle.relations.specs.Services.{pairsWords};
 
-// How many tables may stand aside: as many as the query needs, and two at least, so that a set operation in a run of steps, or a filter
-// with a composition in it, can be applied to the table of what follows.
+// How many tables may stand aside: as many as the query needs, and two at least, so that a set operation or a star in a run of steps, or
+// a filter with a composition in it, can be applied to the table of what follows.
 fn room_for(needed: usize) -> usize
     requires { ⌜ needed ≤ 5 ⌝ }
     ensures { λ r. ⌜ (needed ≤ r) × (r ≤ 5) ⌝ }

@@ -2,16 +2,16 @@
 use Prim.Native.Nat.{ℕ}
 use mathlib.Core.Bool.{Bool, _&&_, _||_, cond}
 use mathlib.Core.List.{List}
-use lib.Dec.{ltb, eqb}
+use lib.Dec.{eqb}
 use Rattle.model.specs.declared.Entry.{Entry}
 use Rattle.model.specs.Sets.{tab, upto}
 use Rattle.model.specs.QueryTable.{kind, entriesOf, pathAt, exprAt}
-use Rattle.model.specs.Checks.{namesVariable, hasLeft, hasRight}
+use Rattle.model.specs.Kinds.{isPath, namesVariable, hasLeft, hasRight}
 use Rattle.model.specs.Sharing.{inPath, inExpr}
 
 -- variable v stands in entry e
 unfoldable pub occurs : List ℕ → ℕ → ℕ → Bool
-occurs q v e = cond (ltb (kind q e) 8) (inPath (pathAt q e) v) (inExpr (exprAt q e) v)
+occurs q v e = cond (isPath (kind q e)) (inPath (pathAt q e) v) (inExpr (exprAt q e) v)
 
 -- the entries in which it stands, as bytes
 unfoldable pub occurrences : List ℕ → ℕ → List ℕ
@@ -25,9 +25,9 @@ standing f v a b = (namesVariable (f .kind) && eqb (f .left) v) || ((hasLeft (f 
 abbrev pub keepsApart : ℕ → Bool
 keepsApart k = eqb k 1 || (eqb k 5 || eqb k 10)
 
--- the kinds in which no variable stands: intersect, except, `not`
+-- the kinds in which no variable stands: intersect, except, `not`, star, `same`
 abbrev pub keepsOut : ℕ → Bool
-keepsOut k = eqb k 3 || (eqb k 4 || eqb k 9)
+keepsOut k = eqb k 3 || (eqb k 4 || (eqb k 9 || (eqb k 13 || eqb k 14)))
 
 -- an entry of kind k breaks the rule by a variable, where a, b and c say whether that stands in its left operand, its right one, and in it
 abbrev pub breaking : ℕ → Bool → Bool → Bool → Bool

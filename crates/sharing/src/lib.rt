@@ -53,7 +53,7 @@ fn is_breaking(k: usize, left: bool, right: bool, here: bool) -> bool
     ensures { λ r. ⌜ r ≡ breaking k left right here ⌝ }
 {
     (((k == 1) | ((k == 5) | (k == 10))) & (left & right))
-        | (((k == 3) | ((k == 4) | (k == 9))) & here)
+        | (((k == 3) | ((k == 4) | ((k == 9) | ((k == 13) | (k == 14))))) & here)
 }
 
 // Entry e breaks the rule by a variable that stands in these entries.

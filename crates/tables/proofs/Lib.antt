@@ -2,3 +2,4 @@ pub mod Words
 pub mod Rows
 pub mod Tables
 pub mod Compositions
+pub mod Closing

@@ -111,7 +111,7 @@ pub rows-end : (R : ℕ → ℕ → Bool) (x n : ℕ) (w o : List ℕ) → Becom
 rows-end R x n w o b l h = subst (λ (k : ℕ). Becomes k R w o) (let e : x ≡ n = omega arith in e) b
 
 -- a row that is not yet written
-row-kept : (R : ℕ → ℕ → Bool) (x : ℕ) (w l : List ℕ) → Becomes x R w l → (z y : ℕ) → x ≤ z → y < 256 → bitRelation l z y ≡ bitRelation w z y
+pub row-kept : (R : ℕ → ℕ → Bool) (x : ℕ) (w l : List ℕ) → Becomes x R w l → (z y : ℕ) → x ≤ z → y < 256 → bitRelation l z y ≡ bitRelation w z y
 row-kept R x w l b z y g h = row-same w l z y h (b .rest (4 * z + y / 64) (omega arith))
 
 pub diagonal-more : (x : ℕ) (w l o r : List ℕ) → Becomes x diagonal w l → RowBecomes x (hasBit r) l o → r ≡ words 4 (only x) → Becomes (x + 1) diagonal w o

@@ -46,3 +46,11 @@ byWord n K base w y = any 64 (λ k. (testBit w k && ltb (base + k) n) && K (base
 -- a set joined with what is reached from the nodes that a word names
 abbrev pub joinedWord : ℕ → (ℕ → ℕ → Bool) → ℕ → ℕ → List ℕ → ℕ → Bool
 joinedWord n K base w r y = hasBit r y || byWord n K base w y
+
+-- the pairs of a relation, and each node with itself
+abbrev pub reflexive : (ℕ → ℕ → Bool) → ℕ → ℕ → Bool
+reflexive R x y = eqb x y || R x y
+
+-- the pairs of a relation, and those of two of its steps that meet at z
+abbrev pub through : ℕ → (ℕ → ℕ → Bool) → ℕ → ℕ → Bool
+through z R x y = R x y || (R x z && R z y)

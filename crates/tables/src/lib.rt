@@ -1,5 +1,6 @@
 // Operations on whole tables of bits. A table of n rows, four words each, stands at the front of a slice of words; the result takes
 // the place of the table at hand, and the words behind it stay.
+mod closure;
 mod product;
 pub mod row;
 pub mod set;
@@ -8,7 +9,7 @@ mod word;
 ghost use Prim.Native.Nat.{_*_, _≤_, _<_};
 ghost use mathlib.Core.Path.{_≡_};
 ghost use lib.ListN.{length};
-ghost use Rattle.model.specs.Sets.{upto};
+ghost use Rattle.model.specs.Sets.{upto, closed};
 ghost use Rattle.bits.specs.Words.{words, hasBit};
 ghost use Rattle.bits.specs.BitTables.{bitRelation};
 ghost use Rattle.bits.specs.Rows.{Becomes, diagonal, composed, startingIn, endingIn, fromNode, hasPair};
@@ -57,6 +58,21 @@ pub fn compose(acc: &mut [u64], kept: &[u64], n: usize)
         let r = product::row_of(acc, kept, n, x);
         row::put(acc, x, r);
         x += 1;
+    }
+}
+
+// The reflexive and transitive closure of the table at hand, where it stands (Warshall's algorithm): after z turns a row has what its
+// node reaches with no node between but those below z. A test for each two nodes, n * n in all, and a turn of four words where it is
+// met: at most 4 * n * n words, a 64th of n * n * n where n is 256.
+pub fn close(acc: &mut [u64], n: usize)
+    requires { ⌜ (n ≤ 256) × (4 * n ≤ length (now acc)) ⌝ }
+    ensures { λ _. ⌜ Becomes n (closed n (bitRelation (now (acc .entry)))) (now (acc .entry)) (now (acc .exit)) ⌝ }
+{
+    closure::join_diagonal(acc, n);
+    let mut z = 0;
+    while z < n {
+        closure::join_through(acc, n, z);
+        z += 1;
     }
 }
 

@@ -11,14 +11,36 @@ struct Cut {
 }
 
 // The bytes that are put in most often.
-const BYTES: [u8; 24] = *b" /[]().$:*-_aornuisde012";
+const BYTES: [u8; 25] = *b" /[]().$:*-_aornuismde012";
+
+// The words that are damaged most often: the first three inside, and all but the first as a whole.
+const FRAIL: [usize; 9] = [
+    words::ANY_NODE,
+    words::SAME,
+    words::CLOSE_STAR,
+    words::CLOSE,
+    words::UNION,
+    words::INTERSECT,
+    words::EXCEPT,
+    words::OR,
+    words::AND,
+];
+
+// One of these words, from one number up to another.
+fn frail_word(seed: &mut u64, first: usize, last: usize) -> usize {
+    let k = random::between(seed, first, last);
+    if k < 9 {
+        return FRAIL[k];
+    }
+    words::SAME
+}
 
 fn any_byte(seed: &mut u64) -> u8 {
-    let k = random::below(seed, 24);
+    let k = random::below(seed, 25);
     if random::below(seed, 8) == 0 {
         return table::byte(random::below(seed, 256));
     }
-    if k < 24 {
+    if k < 25 {
         return BYTES[k];
     }
     0
@@ -100,24 +122,50 @@ fn find(text: &[u8], start: usize, word: usize) -> usize {
     end
 }
 
-// Where one byte is damaged: any place or, if one follows and every third time, within a `node()`.
+// The place behind a word that was found, or the text's length.
+fn word_end(text: &[u8], place: usize, word: usize) -> usize {
+    let end = text.len();
+    if place == end {
+        return end;
+    }
+    std::num::wrapping_add_usize(place, words::length(word))
+}
+
+// Where one byte is damaged: any place or, if one follows and every other time, within a `node()`, a ` same ` or a `)*`.
 fn spot(seed: &mut u64, text: &[u8]) -> usize {
     let any = random::below(seed, text.len());
-    let near = find(text, any, words::ANY_NODE);
-    let within = random::below(seed, words::length(words::ANY_NODE));
-    if (random::below(seed, 3) != 0) | (near == text.len()) {
+    let word = frail_word(seed, 0, 2);
+    let near = find(text, any, word);
+    let within = random::below(seed, words::length(word));
+    if (random::below(seed, 2) != 0) | (near == text.len()) {
         return any;
     }
     std::num::wrapping_add_usize(near, within)
 }
 
+// An operator or a closing bracket comes in the place of another or, where that does not follow, at the end.
+fn exchange(seed: &mut u64, piece: &mut words::Bytes, text: &[u8]) -> Cut {
+    let old = frail_word(seed, 1, 8);
+    let new = frail_word(seed, 1, 8);
+    let start = find(text, random::below(seed, text.len()), old);
+    words::put(new, piece, 0);
+    Cut {
+        start: start,
+        end: word_end(text, start, old),
+        size: words::length(new),
+    }
+}
+
 // What is taken out of a text, with the piece that comes instead: a byte or a word.
 fn choose(seed: &mut u64, piece: &mut words::Bytes, text: &[u8]) -> Cut {
-    let form = random::below(seed, 6);
+    let form = random::below(seed, 7);
     let length = text.len();
     if form < 3 {
         let at = spot(seed, text);
         return small(seed, piece, form, at);
+    }
+    if form == 6 {
+        return exchange(seed, piece, text);
     }
     let start = random::between(seed, 0, length);
     large(seed, piece, form, start, length)

@@ -82,7 +82,7 @@ fn append(m: Made, operands: &mut Stack, due: &mut Numbers, taken: usize, f: mod
 // The entry of a kind over the last operand or the last two.
 fn join(m: Made, operands: &mut Stack, due: &mut Numbers, kind: usize) -> Made {
     let last = top(operands, m.operands, 1);
-    if (6 < kind) & (kind < 10) {
+    if (6 < kind) & (kind < 10) | (kind == 13) {
         return append(m, operands, due, 1, random::entry(kind, last, 0, 0));
     }
     let before = top(operands, m.operands, 2);

@@ -56,6 +56,10 @@ const KIND_10: usize = 74;
 
 const KIND_11: usize = 75;
 
+const KIND_13: usize = 77;
+
+const KIND_14: usize = 78;
+
 // To make an operand: descendant-or-self::node() with nothing written, any step, a variable, and `is`; the others are as
 // written.
 pub const DEEP: usize = 80;
@@ -73,7 +77,7 @@ pub const LEAF_IS: usize = 85;
 // Nothing.
 pub const NONE: usize = 99;
 
-const PRODUCTIONS: [[usize; 6]; 35] = [
+const PRODUCTIONS: [[usize; 6]; 38] = [
     [INTER, MORE_PATH, NONE, NONE, NONE, NONE],
     [NONE, NONE, NONE, NONE, NONE, NONE],
     [words::UNION, INTER, KIND_2, MORE_PATH, NONE, NONE],
@@ -105,6 +109,7 @@ const PRODUCTIONS: [[usize; 6]; 35] = [
     [LEAF_STEP, NONE, NONE, NONE, NONE, NONE],
     [LEAF_STEP, NONE, NONE, NONE, NONE, NONE],
     [words::OPEN, PATH, words::CLOSE, NONE, NONE, NONE],
+    [words::OPEN, PATH, words::CLOSE_STAR, KIND_13, NONE, NONE],
     [CONJ, MORE_TEST, NONE, NONE, NONE, NONE],
     [NONE, NONE, NONE, NONE, NONE, NONE],
     [words::OR, CONJ, KIND_11, MORE_TEST, NONE, NONE],
@@ -112,6 +117,8 @@ const PRODUCTIONS: [[usize; 6]; 35] = [
     [NONE, NONE, NONE, NONE, NONE, NONE],
     [words::AND, UNIT, KIND_10, MORE_CONJ, NONE, NONE],
     [PATH, KIND_8, NONE, NONE, NONE, NONE],
+    [PATH, words::SAME, PATH, KIND_14, NONE, NONE],
+    [PATH, words::SAME, PATH, KIND_14, NONE, NONE],
     [LEAF_IS, NONE, NONE, NONE, NONE, NONE],
     [words::NOT, TEST, words::CLOSE, KIND_9, NONE, NONE],
     [words::OPEN, TEST, words::CLOSE, NONE, NONE, NONE],
@@ -129,12 +136,12 @@ const CHOICES: [[usize; 3]; 15] = [
     [11, 3, 1],
     [14, 1, 0],
     [15, 2, 2],
-    [17, 7, 0],
-    [24, 1, 0],
-    [25, 2, 3],
-    [27, 1, 0],
-    [28, 2, 3],
-    [30, 5, 0],
+    [17, 8, 0],
+    [25, 1, 0],
+    [26, 2, 3],
+    [28, 1, 0],
+    [29, 2, 3],
+    [31, 7, 0],
 ];
 
 fn choice(symbol: usize, k: usize) -> usize {
@@ -168,7 +175,7 @@ pub fn choose(seed: &mut u64, symbol: usize, any: bool) -> usize {
 
 // What is to be done as number k of a production.
 pub fn part(production: usize, k: usize) -> usize {
-    if production < 35 {
+    if production < 38 {
         if k < 6 {
             return PRODUCTIONS[production][k];
         }

@@ -4,7 +4,7 @@ use harness::table;
 use reference::random;
 
 // The tag of each name, and UNKNOWN if it has none.
-pub type Tags = [usize; 19];
+pub type Tags = [usize; 20];
 
 pub const UNKNOWN: usize = 65535;
 
@@ -12,10 +12,10 @@ pub const UNKNOWN: usize = 65535;
 const END: u8 = b'~';
 
 // How many of the names may be in a vocabulary; the two behind them are too long.
-pub const SHORT: usize = 17;
+pub const SHORT: usize = 18;
 
 // Names that words of the grammar, or each other, begin with or spell.
-const NAMES: [[u8; 40]; 19] = [
+const NAMES: [[u8; 40]; 20] = [
     *b"a~~~~~~~~~~~~~~~~~~~~~~~~~~~~~~~~~~~~~~~",
     *b"ab~~~~~~~~~~~~~~~~~~~~~~~~~~~~~~~~~~~~~~",
     *b"A~~~~~~~~~~~~~~~~~~~~~~~~~~~~~~~~~~~~~~~",
@@ -26,6 +26,7 @@ const NAMES: [[u8; 40]; 19] = [
     *b"except~~~~~~~~~~~~~~~~~~~~~~~~~~~~~~~~~~",
     *b"not~~~~~~~~~~~~~~~~~~~~~~~~~~~~~~~~~~~~~",
     *b"is~~~~~~~~~~~~~~~~~~~~~~~~~~~~~~~~~~~~~~",
+    *b"same~~~~~~~~~~~~~~~~~~~~~~~~~~~~~~~~~~~~",
     *b"self~~~~~~~~~~~~~~~~~~~~~~~~~~~~~~~~~~~~",
     *b"_-9Z~~~~~~~~~~~~~~~~~~~~~~~~~~~~~~~~~~~~",
     *b"0~~~~~~~~~~~~~~~~~~~~~~~~~~~~~~~~~~~~~~~",
@@ -38,7 +39,7 @@ const NAMES: [[u8; 40]; 19] = [
 ];
 
 fn byte(name: usize, k: usize) -> u8 {
-    if name < 19 {
+    if name < 20 {
         if k < 40 {
             return NAMES[name][k];
         }
@@ -69,7 +70,7 @@ pub fn put(name: usize, to: &mut words::Bytes, place: usize) {
 
 // The tag of a name; a name from beyond the list has none.
 pub fn tag(tags: &Tags, name: usize) -> usize {
-    if name < 19 {
+    if name < 20 {
         return tags[name];
     }
     UNKNOWN
@@ -77,7 +78,7 @@ pub fn tag(tags: &Tags, name: usize) -> usize {
 
 // A name gets a tag, unless it has a lower one.
 fn meet(tags: &mut Tags, name: usize, tag: usize) {
-    if name < 19 {
+    if name < 20 {
         if tags[name] == UNKNOWN {
             tags[name] = tag;
         }

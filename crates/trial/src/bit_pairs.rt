@@ -1,11 +1,13 @@
 // Pairs in bits: each call is compared with the reply that is due, and the buffer, which is filled with a pattern, with the words
 // that are due.
+use harness::line;
 use harness::shared;
 use harness::table;
 use harness::tally;
 use reference::bit_damage;
 use reference::bit_tables;
 use reference::random;
+use reference::seeing;
 
 // What fills a buffer before a call: the bytes of the word are all 7.
 pub const PATTERN: u64 = 506381209866536711;
@@ -86,6 +88,23 @@ pub fn compare_table(
         },
     };
     compare(tally, c, shared, query, nodes, &due);
+}
+
+// The pairs that a line of the input has due as bytes, in its last part.
+pub fn run(
+    tally: &mut tally::Tally,
+    shared: &shared::Shared,
+    query: &table::Table,
+    nodes: &table::Table,
+    line: &line::Line,
+) {
+    let mut cells = [0u8; 66560];
+    let mut tree = [0u16; 1025];
+    let mut seed: u64 = 1;
+    line::copy_bytes(line, 4, &mut cells);
+    seeing::make(shared, &mut tree);
+    let n = table::size(&tree);
+    compare_table(tally, &mut seed, shared, n, query, nodes, &cells);
 }
 
 // A call with a fault in what it is lent; nothing is written. The query has fewer than 64 entries.

@@ -1,5 +1,6 @@
 // Calls of an evaluation, each with a buffer that is filled with a pattern: the reply is compared with the one that is due, the
 // count of an image too, and the buffer afterwards with the bytes that are due.
+use super::bit_pairs;
 use harness::line;
 use harness::shared;
 use harness::table;
@@ -135,7 +136,7 @@ pub fn compare_pairs(
 }
 
 // A line of the input: SERVICE NUMBER PLACE COUNT | COLUMNS ROOM | NODES | SET | BYTES, where BYTES are due at the buffer's front;
-// pairs has no COUNT.
+// pairs has no COUNT, and those that are accepted are asked for as bits too.
 pub fn run(
     tally: &mut tally::Tally,
     shared: &shared::Shared,
@@ -159,4 +160,7 @@ pub fn run(
         count: line::number(line, 0, 2),
     };
     compare_set(tally, c, shared, query, &nodes, &set, &due);
+    if (service == PAIRS) & (c.number == 0) {
+        bit_pairs::run(tally, shared, query, &nodes, line);
+    }
 }

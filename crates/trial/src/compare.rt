@@ -6,7 +6,7 @@ use harness::line;
 use harness::shared;
 use harness::table;
 use harness::tally;
-use reference::document;
+use reference::bearing;
 use reference::evaluator;
 use reference::owning;
 use reference::random;
@@ -103,23 +103,6 @@ fn compare_all(
     compare_pairs(tally, seed, shared, n, query, nodes, pairs)
 }
 
-// Counts a tree with a document node, and whether the query, which has so many pairs, leaves that out by its star.
-fn count_document(
-    tally: &mut tally::Tally,
-    tree: &table::Table,
-    query: &table::Table,
-    nodes: &table::Table,
-    pairs: &mut evaluator::Pairs,
-    found: usize,
-) {
-    if !document::is_there(tree) {
-        return;
-    }
-    tally::add(tally, tally::DOCUMENTS, 1);
-    let left_out = document::is_left_out(pairs, tree, query, nodes, found);
-    tally::add(tally, tally::LEFT_OUT, left_out as u64);
-}
-
 // What a party sees, and all results of a query over that, under a random assignment; and the same calls with another table of which it
 // sees the same tree.
 fn run_for(
@@ -145,7 +128,7 @@ fn run_for(
     let mut again = *seed;
     compare_all(tally, seed, &own, n, query, &nodes, pairs);
     let found = compare_all(tally, &mut again, &twin, n, query, &nodes, pairs);
-    count_document(tally, &tree, query, &nodes, pairs, found);
+    bearing::count(tally, pairs, &tree, query, &nodes, found);
 }
 
 // One table and one query that a line asks for, and each party.

@@ -5,6 +5,7 @@ use super::call;
 use harness::line;
 use harness::table;
 use harness::tally;
+use reference::bearing;
 use reference::evaluator;
 use reference::owning;
 use reference::random;
@@ -39,4 +40,6 @@ pub fn run(
     tally::add(tally, tally::DEEP, 1);
     tally::add(tally, tally::MIXED, mixed as u64);
     bit_pairs::compare_table(tally, seed, &shared, n, &query, &nodes, &cells);
+    let decides = bearing::decides(pairs, &tree, &query, &nodes, found, bearing::CLOSURE);
+    tally::add(tally, tally::DECIDING, decides as u64);
 }

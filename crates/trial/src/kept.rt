@@ -61,7 +61,7 @@ fn refuse_each(
     columns: usize,
 ) {
     let mut i = 0;
-    while i < 6 {
+    while i < 8 {
         refuse_broken(tally, seed, shared, query, columns, keeping::kind(i));
         i += 1;
     }

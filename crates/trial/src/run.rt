@@ -242,9 +242,12 @@ fn run_many(tally: &mut tally::Tally, line: &line::Line, letter: u8) {
     }
     if letter == b'o' {
         tally::expect_left_out(tally, some, of);
+        tally::expect_closing(tally, line::number(line, 1, 0), line::number(line, 1, 1));
+        tally::expect_meeting(tally, line::number(line, 2, 0), line::number(line, 2, 1));
     }
     if letter == b'v' {
         tally::expect_mixed(tally, some, of);
+        tally::expect_deciding(tally, line::number(line, 1, 0), line::number(line, 1, 1));
     }
     if letter == b'h' {
         tally::expect_kept(tally, some, of);

@@ -116,6 +116,47 @@ fn expect_chart(tally: &mut tally::Tally, text: &[u8], due: model::ReadReply) {
     }
 }
 
+// A text with the reply and the table that are due.
+fn expect(
+    tally: &mut tally::Tally,
+    counts: &mut counts::Counts,
+    typed: &[u8],
+    house: &[u8],
+    site: &[u8],
+    lent: call::Lent,
+    due: model::ReadReply,
+    table: &grow::Numbers,
+) {
+    expect_chart(tally, typed, due);
+    call::compare(tally, counts, typed, house, site, lent, due, table);
+}
+
+// unfinished FIRST: each front of the text of FIRST bytes or more, but for all of it, is refused with 24 at its end
+pub fn run_unfinished(
+    tally: &mut tally::Tally,
+    counts: &mut counts::Counts,
+    line: &line::Line,
+    text: &[u8],
+    house: &[u8],
+    site: &[u8],
+    p: Present,
+) {
+    let none = [call::PATTERN; 320];
+    let lent = call::Lent {
+        house: p.house,
+        site: p.site,
+        room: 320,
+    };
+    let end = p.text;
+    let mut length = line::number(line, 0, 0);
+    while length < end {
+        let typed = front(text, length);
+        let due = call::refused(24, length);
+        expect(tally, counts, typed, house, site, lent, due, &none);
+        length += 1;
+    }
+}
+
 // read NUMBER PLACE COUNT COLUMNS | ROOM | TABLE
 pub fn run(
     tally: &mut tally::Tally,
@@ -134,8 +175,7 @@ pub fn run(
         room: line::number(line, 1, 0),
     };
     let typed = front(text, p.text);
-    expect_chart(tally, typed, reply(line));
-    call::compare(tally, counts, typed, house, site, lent, reply(line), &due);
+    expect(tally, counts, typed, house, site, lent, reply(line), &due);
 }
 
 // The bytes of a buffer up to a length.

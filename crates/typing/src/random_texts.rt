@@ -180,22 +180,30 @@ fn room_for(seed: &mut u64, needed: usize) -> usize {
     random::below(seed, needed)
 }
 
-// The kinds and the axes of an accepted table are met.
+// Number k of entry e.
+fn field(numbers: &grow::Numbers, e: usize, k: usize) -> usize {
+    table::at(numbers, std::num::wrapping_add_usize(table::times(4, e), k))
+}
+
+// The kind of an entry is met, and the axis of a step or the kinds of the operands.
+fn meet_entry(counts: &mut counts::Counts, numbers: &grow::Numbers, e: usize) {
+    let kind = field(numbers, e, 0);
+    let left = field(numbers, e, 1);
+    counts::meet(counts, counts::KINDS, chart::spans::bit(kind));
+    if kind == 0 {
+        counts::meet(counts, counts::AXES, chart::spans::bit(left));
+        return;
+    }
+    let right = field(numbers, e, 2);
+    counts::meet_operand(counts, kind, 0, field(numbers, left, 0));
+    counts::meet_operand(counts, kind, 1, field(numbers, right, 0));
+}
+
+// All entries of an accepted table are met.
 fn meet_entries(counts: &mut counts::Counts, numbers: &grow::Numbers, entries: usize) {
     let mut e = 0;
-    while e < 64 {
-        if entries <= e {
-            return;
-        }
-        let kind = table::at(numbers, 4 * e);
-        counts::meet(counts, counts::KINDS, chart::spans::bit(kind));
-        if kind == 0 {
-            counts::meet(
-                counts,
-                counts::AXES,
-                chart::spans::bit(table::at(numbers, 4 * e + 1)),
-            );
-        }
+    while e < entries {
+        meet_entry(counts, numbers, e);
         e += 1;
     }
 }
@@ -212,8 +220,9 @@ fn compare_made(
     numbers: &grow::Numbers,
 ) {
     let reply = due(m, lent.room);
-    counts::add(counts, counts::TEXTS);
+    counts::add_text(counts, counts::TEXTS, m.words);
     if reply.number == 0 {
+        counts::add_text(counts, counts::ACCEPTED, m.words);
         counts::meet(counts, counts::WORDS, m.words);
         counts::meet(counts, counts::NAMES, m.names);
         meet_entries(counts, numbers, m.entries);
@@ -314,7 +323,7 @@ fn run_one(
     let mut site = [0u8; 2048];
     let mut bytes = [0u8; 2048];
     let mut numbers = [call::PATTERN; 320];
-    let mut tags = [vocabulary::UNKNOWN; 19];
+    let mut tags = [vocabulary::UNKNOWN; 20];
     let most = fill_both(seed, &mut house, &mut site, &mut tags);
     let choices = random::between(seed, line::number(line, 1, 0), line::number(line, 1, 1));
     let m = grow::make(seed, &mut bytes, &mut numbers, &tags, choices);

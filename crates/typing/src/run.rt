@@ -25,6 +25,10 @@ fn run_check(
         fixed::run_many(tally, counts, line, text, site, p);
         return;
     }
+    if letter == b'u' {
+        fixed::run_unfinished(tally, counts, line, text, house, site, p);
+        return;
+    }
     if letter == b't' {
         random_texts::run(tally, counts, line);
         return;
@@ -90,7 +94,7 @@ fn run_line(
 
 pub fn run_all(input: &[u8]) {
     let mut tally = [0u64; 68];
-    let mut counts = [0u64; 40];
+    let mut counts = [0u64; 71];
     let mut text = [0u8; 2048];
     let mut house = [0u8; 2048];
     let mut site = [0u8; 2048];

@@ -20,7 +20,7 @@ use denote.Steps.{owned, nothing}
 
 -- one flag a word
 abbrev pub Flags : RattleType
-Flags = Array Boolean 34
+Flags = Array Boolean 36
 
 -- their machine value
 abbrev pub flags : List Bool → Val
@@ -42,4 +42,4 @@ module _ (may : List Bool) (lo hi : ℕ) where
   asks 𝓤 H A W k =
       qed W [] ∵ nothing ! $ owned ! usize (Is usize) (uint-makes 𝓤 H A W w64) hi _ (refl, k .hi-fits) $ fjoin ! $
       owned ! usize (Is usize) (uint-makes 𝓤 H A W w64) lo _ (refl, k .lo-fits) $ fjoin ! $
-      owned ! Flags (Is Flags) (array-makes 𝓤 H A W Boolean (bool-makes 𝓤 H A W) 34) may _ (k .flagged) $ fjoin ! $ done !
+      owned ! Flags (Is Flags) (array-makes 𝓤 H A W Boolean (bool-makes 𝓤 H A W) 36) may _ (k .flagged) $ fjoin ! $ done !

@@ -122,8 +122,8 @@ words-end words may text lo hi k best e h = (let z : hi - k ≡ 0 = omega arith 
 pub raised-yes : (b : Bool) (x y r : ℕ) → r ≡ y → b ≡ true → r ≡ cond b y x
 raised-yes b x y r e h = e ∙ rw h
 
-pub table-length : (k x : ℕ) → k < 34 → x ≡ getD wordTable (21 * k) 0 → x % 21 ≡ length (slot wordTable k)
+pub table-length : (k x : ℕ) → k < 36 → x ≡ getD wordTable (21 * k) 0 → x % 21 ≡ length (slot wordTable k)
 table-length k x h e = ap (λ (j : ℕ). j % 21) e ∙ sym (slot-length wordTable k (room k h))
   where
-    room : (k : ℕ) → k < 34 → 21 * k + 21 ≤ length wordTable
-    room k h = let z : length wordTable ≡ 714 = unfold wordTable in refl in omega arith
+    room : (k : ℕ) → k < 36 → 21 * k + 21 ≤ length wordTable
+    room k h = let z : length wordTable ≡ 756 = unfold wordTable in refl in omega arith

@@ -6,7 +6,7 @@ use lib.ListN.{length, take, drop, getD, replicate}
 use lib.Dec.{ltb, eqb}
 use Rattle.grammar.specs.Grammar.{ascii, axes, axisWord, variables, word}
 use Rattle.grammar.specs.Grammar.Slash.{one}
-use Rattle.grammar.specs.Grammar.Op.{or, and, union, intersect, except, slash}
+use Rattle.grammar.specs.Grammar.Op.{or, and, same, union, intersect, except, slash}
 use Rattle.words.specs.declared.Scan.{Scan}
 use Rattle.words.specs.declared.Scan.the-variants.{Word, Stop}
 
@@ -32,14 +32,14 @@ scanFrom words may text k (suc n) best =
     cond (getD may k false && eqb (common (slot words k) text) (length (slot words k))) (Word k)
     (scanFrom words may text (suc k) n (cond (getD may k false) (greater best (common (slot words k) text)) best))
 
--- the words by their numbers: 0 to 19 where an expression is wanted, 20 to 33 behind one
+-- the words by their numbers: 0 to 19 where an expression is wanted, 20 to 35 behind one
 unfoldable pub allWords : List (List ℕ)
 allWords =
     map axisWord axes
     ++ (map (λ k. ascii "$" ++ (48 + k) ∷ []) variables
     ++ (ascii "." ∷ ascii "(" ∷ ascii "not(" ∷ ascii "/" ∷ [])
     ++ (map (λ k. ascii " is $" ++ (48 + k) ∷ []) variables
-    ++ (ascii "." ∷ ascii "[" ∷ ascii "]" ∷ ascii ")" ∷ word or ∷ word and ∷ word union ∷ word intersect ∷ word except ∷ word (slash one) ∷ ascii "()" ∷ [])))
+    ++ (ascii "." ∷ ascii "[" ∷ ascii "]" ∷ ascii ")" ∷ word or ∷ word and ∷ word same ∷ word union ∷ word intersect ∷ word except ∷ word (slash one) ∷ ascii "()" ∷ ascii "*" ∷ [])))
 
 -- words as a table: for each its length, its bytes, and zeros up to 20
 abbrev table : List (List ℕ) → List ℕ

@@ -20,7 +20,7 @@ pub struct Reader<'a> {
 }
 
 // The words of the grammar by their numbers, 21 bytes each: the length, the word, zeros (specs/Words.antt: wordTable).
-const WORDS: [u8; 714] = *b"\
+const WORDS: [u8; 756] = *b"\
     \x06self::\0\0\0\0\0\0\0\0\0\0\0\0\0\0\
     \x07child::\0\0\0\0\0\0\0\0\0\0\0\0\0\
     \x08parent::\0\0\0\0\0\0\0\0\0\0\0\0\
@@ -50,11 +50,13 @@ const WORDS: [u8; 714] = *b"\
     \x01)\0\0\0\0\0\0\0\0\0\0\0\0\0\0\0\0\0\0\0\
     \x04 or \0\0\0\0\0\0\0\0\0\0\0\0\0\0\0\0\
     \x05 and \0\0\0\0\0\0\0\0\0\0\0\0\0\0\0\
+    \x06 same \0\0\0\0\0\0\0\0\0\0\0\0\0\0\
     \x07 union \0\0\0\0\0\0\0\0\0\0\0\0\0\
     \x0b intersect \0\0\0\0\0\0\0\0\0\
     \x08 except \0\0\0\0\0\0\0\0\0\0\0\0\
     \x01/\0\0\0\0\0\0\0\0\0\0\0\0\0\0\0\0\0\0\0\
     \x02()\0\0\0\0\0\0\0\0\0\0\0\0\0\0\0\0\0\0\
+    \x01*\0\0\0\0\0\0\0\0\0\0\0\0\0\0\0\0\0\0\0\
 ";
 
 // A byte as a number.
@@ -101,8 +103,8 @@ fn alike(words: &[u8], from: usize, len: usize, text: &[u8], at: usize) -> usize
 }
 
 // The first of the words from lo to hi that may come and stands at `at`, or how far one of them goes.
-fn seek(words: &[u8], may: [bool; 34], lo: usize, hi: usize, text: &[u8], at: usize) -> Scan
-    requires { ⌜ (714 ≤ length (now words)) × (lo ≤ hi) × (hi ≤ 34) × (at ≤ length (now text)) ⌝ }
+fn seek(words: &[u8], may: [bool; 36], lo: usize, hi: usize, text: &[u8], at: usize) -> Scan
+    requires { ⌜ (756 ≤ length (now words)) × (lo ≤ hi) × (hi ≤ 36) × (at ≤ length (now text)) ⌝ }
     ensures { λ r. ⌜ r ≡ scanFrom (now (words .entry)) may (drop at (now (text .entry))) lo (hi - lo) 0 ⌝ }
 {
     let mut k = lo;
@@ -123,15 +125,15 @@ fn seek(words: &[u8], may: [bool; 34], lo: usize, hi: usize, text: &[u8], at: us
 
 // The length of word k.
 pub fn word_len(k: usize) -> usize
-    requires { ⌜ k < 34 ⌝ }
+    requires { ⌜ k < 36 ⌝ }
     ensures { λ r. ⌜ r ≡ length (slot wordTable k) ⌝ }
 {
     wide(WORDS[21 * k]) % 21
 }
 
 // The same in the grammar's own words. One look at each word.
-fn find_word(text: &[u8], at: usize, may: [bool; 34], lo: usize, hi: usize) -> Scan
-    requires { ⌜ (lo ≤ hi) × (hi ≤ 34) × (at ≤ length (now text)) ⌝ }
+fn find_word(text: &[u8], at: usize, may: [bool; 36], lo: usize, hi: usize) -> Scan
+    requires { ⌜ (lo ≤ hi) × (hi ≤ 36) × (at ≤ length (now text)) ⌝ }
     ensures { λ r. ⌜ r ≡ scanFrom wordTable may (drop at (now (text .entry))) lo (hi - lo) 0 ⌝ }
 {
     seek(&WORDS, may, lo, hi, text, at)
@@ -145,16 +147,16 @@ pub fn reader_at<'a>(text: &'a [u8], at: usize) -> Reader<'a>
 }
 
 // The first of the words lo to hi that may come and stands at the reader's place, or how far one of them goes.
-pub fn word<'a>(r: Reader<'a>, may: [bool; 34], lo: usize, hi: usize) -> Scan
-    requires { ⌜ (lo ≤ hi) × (hi ≤ 34) × (r .at ≤ length (now (r .text))) ⌝ }
+pub fn word<'a>(r: Reader<'a>, may: [bool; 36], lo: usize, hi: usize) -> Scan
+    requires { ⌜ (lo ≤ hi) × (hi ≤ 36) × (r .at ≤ length (now (r .text))) ⌝ }
     ensures { λ s. ⌜ s ≡ scanFrom wordTable may (drop (r .entry .at) (now (r .entry .text))) lo (hi - lo) 0 ⌝ }
 {
     find_word(r.text, r.at, may, lo, hi)
 }
 
 // The same with plain parameters: the form that other crates call.
-pub fn word_at(text: &[u8], at: usize, may: [bool; 34], lo: usize, hi: usize) -> Scan
-    requires { ⌜ (lo ≤ hi) × (hi ≤ 34) × (at ≤ length (now text)) ⌝ }
+pub fn word_at(text: &[u8], at: usize, may: [bool; 36], lo: usize, hi: usize) -> Scan
+    requires { ⌜ (lo ≤ hi) × (hi ≤ 36) × (at ≤ length (now text)) ⌝ }
     ensures { λ r. ⌜ r ≡ scanFrom wordTable may (drop at (now (text .entry))) lo (hi - lo) 0 ⌝ }
 {
     word(reader_at(text, at), may, lo, hi)

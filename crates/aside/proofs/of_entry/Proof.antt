@@ -24,6 +24,9 @@ returns-2 c = search (did-one, needs)
 array-read-b : tie.Need-array-read-b
 array-read-b c = search (right-index, needs)
 
+two-tables-requires : tie.Need-two-tables-requires
+two-tables-requires c κs = search needs
+
 in-turn-requires : tie.Need-in-turn-requires
 in-turn-requires c κs = search (left-small, needs)
 
@@ -47,6 +50,7 @@ of-entry-spec =
     has-right-requires
     returns-2
     array-read-b
+    two-tables-requires
     in-turn-requires
     returns-3
     larger-requires

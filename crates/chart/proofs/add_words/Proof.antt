@@ -8,7 +8,7 @@ abbrev Inv-loop : tie.InvT-loop
 Inv-loop chart₀ text place word₀ chart word = Unit {0}
 
 abbrev μ-loop : tie.MeasureT-loop
-μ-loop chart₀ text place word₀ chart word = 35 - word
+μ-loop chart₀ text place word₀ chart word = 37 - word
 
 loop-holds : tie.Need-loop-holds Inv-loop μ-loop
 loop-holds c = search needs

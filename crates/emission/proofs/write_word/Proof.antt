@@ -1,4 +1,4 @@
-use Rattle.emission.proofs.Writing.{word-want, word-have, word-letter, word-step}
+use Rattle.emission.proofs.Writing.{word-want, word-have, word-closure, word-letter, word-step}
 use borrow.Author.Needs.{needs}
 use Rattle.emission.proofs.write_word.Statement.{statement}
 use Rattle.emission.proofs.write_word.Tie as tie
@@ -30,14 +30,8 @@ same-length-4 c = search needs
 returns-2 : tie.Need-returns-2
 returns-2 c = search (word-have, needs)
 
-returns-3 : tie.Need-returns-3
-returns-3 c = search (word-letter, needs)
-
-unnamed-tag-requires : tie.Need-unnamed-tag-requires
-unnamed-tag-requires c κs = search needs
-
-put-step-requires : tie.Need-put-step-requires
-put-step-requires c κs = search needs
+put-unary-requires : tie.Need-put-unary-requires
+put-unary-requires c κs = search needs
 
 same-length-5 : tie.Need-same-length-5
 same-length-5 c = search needs
@@ -45,8 +39,26 @@ same-length-5 c = search needs
 same-length-6 : tie.Need-same-length-6
 same-length-6 c = search needs
 
+returns-3 : tie.Need-returns-3
+returns-3 c = search (word-closure, needs)
+
 returns-4 : tie.Need-returns-4
-returns-4 c = search (word-step, needs)
+returns-4 c = search (word-letter, needs)
+
+unnamed-tag-requires : tie.Need-unnamed-tag-requires
+unnamed-tag-requires c κs = search needs
+
+put-step-requires : tie.Need-put-step-requires
+put-step-requires c κs = search needs
+
+same-length-7 : tie.Need-same-length-7
+same-length-7 c = search needs
+
+same-length-8 : tie.Need-same-length-8
+same-length-8 c = search needs
+
+returns-5 : tie.Need-returns-5
+returns-5 c = search (word-step, needs)
 
 pub write-word-spec : {M : Type 1} → statement M
 write-word-spec =
@@ -61,9 +73,13 @@ write-word-spec =
     same-length-3
     same-length-4
     returns-2
-    returns-3
-    unnamed-tag-requires
-    put-step-requires
+    put-unary-requires
     same-length-5
     same-length-6
-    returns-4)
+    returns-3
+    returns-4
+    unnamed-tag-requires
+    put-step-requires
+    same-length-7
+    same-length-8
+    returns-5)

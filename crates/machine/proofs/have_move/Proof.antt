@@ -1,5 +1,5 @@
 use Rattle.machine.specs.Machine.{haveMove}
-use Rattle.machine.proofs.Steps.{below-33}
+use Rattle.machine.proofs.Steps.{below-34}
 use borrow.Author.Needs.{needs}
 use Rattle.machine.proofs.have_move.Statement.{statement}
 use Rattle.machine.proofs.have_move.Tie as tie
@@ -24,7 +24,7 @@ unfolding haveMove
 returns-4 c = rw (c .before .before .before .before .if1 .left, c .before .before .before .if2 .left, c .before .before .if3 .left, c .before .if4 .taken) (c .close-move .ensures)
 
 join-move-requires : tie.Need-join-move-requires
-join-move-requires c κs = (search needs, search needs, search (below-33, needs))
+join-move-requires c κs = (search needs, search needs, search (below-34, needs))
 
 returns-5 : tie.Need-returns-5
 unfolding haveMove

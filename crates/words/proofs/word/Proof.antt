@@ -89,7 +89,7 @@ module _ {M : Type 1} (𝓤 : URA M) (H : Heap 𝓤) (A : Atoms 𝓤) (W : Given
 
   -- what the contracts ask
   abbrev Required : Type 0
-  Required = (lo ≤ hi) × (hi ≤ 34) × (d .at ≤ length (now (d .text)))
+  Required = (lo ≤ hi) × (hi ≤ 36) × (d .at ≤ length (now (d .text)))
 
   abbrev Args : Type 0
   Args = Reader × (List Bool × (ℕ × (ℕ × Unit {0})))
@@ -152,7 +152,7 @@ module _ {M : Type 1} (𝓤 : URA M) (H : Heap 𝓤) (A : Atoms 𝓤) (W : Given
     walk wt h =
         qed W (raw (onEntry 𝓤 H A word.signature (κ, tt) (q, tt) args at) ∷ []) ∵ enter ! C Λ code.function (mach ∷ flags may ∷ vint w64 lo ∷ vint w64 hi ∷ []) _ $
         alloc1 ! (λ l₀. alloc1 ! (λ l₁. alloc1 ! (λ l₂. alloc1 ! (λ l₃. alloc1 ! (λ l₄. alloc1 ! (λ l₅. alloc1 ! (λ l₆. alloc0 ! $ params1 ! $ pass1 ! (init ! 10 refl wt) $
-        pass1 ! (init ! 8 refl (array-lawful 𝓤 H A W Boolean (bool-lawful 𝓤 H A W) 34 .typed may _ (k .flagged) .0)) $
+        pass1 ! (init ! 8 refl (array-lawful 𝓤 H A W Boolean (bool-lawful 𝓤 H A W) 36 .typed may _ (k .flagged) .0)) $
         pass1 ! (init ! 6 refl (tt, record { fits = k .lo-fits })) $ pass1 ! (init ! 4 refl (tt, record { fits = k .hi-fits })) $ pass0 ! $
         assigns ! (of-opd ! (load ! (from ! (fld ! refl (stop !))) (look-in ! 10 (sub ! 0 refl (whole !))))) (from ! (stop !)) (init ! 2 refl (tt, wt .1 .0)) $
         assigns ! (of-opd ! (load ! (from ! (fld ! refl (stop !))) (look-in ! 10 (sub ! 1 refl (whole !))))) (from ! (stop !)) (init ! 0 refl (tt, wt .1 .1 .0)) $
@@ -173,7 +173,7 @@ module _ {M : Type 1} (𝓤 : URA M) (H : Heap 𝓤) (A : Atoms 𝓤) (W : Given
       → Walks 𝓤 H A word.ended stayed (WpFn 𝓤 H C Λ code.function) (word.clauses 𝓤 H A mem run)
   word-walks C Λ fm known = walked 𝓤 H A word.ended stayed (word.clauses 𝓤 H A mem run) (WpFn 𝓤 H C Λ code.function)
       (λ κs. (LL.vals (T.the-type (namedLft 1 0 tt κs)) (T′.the-laws (namedLft 1 0 tt κs)), (array-vals bool-vals, (uint-vals w64, (uint-vals w64, tt)))))
-      (λ κs. (LL.tells (T.the-type (namedLft 1 0 tt κs)) (T′.the-laws (namedLft 1 0 tt κs)), (array-tells Boolean bool-vals bool-tells 34, (uint-tells w64, (uint-tells w64, tt)))))
+      (λ κs. (LL.tells (T.the-type (namedLft 1 0 tt κs)) (T′.the-laws (namedLft 1 0 tt κs)), (array-tells Boolean bool-vals bool-tells 36, (uint-tells w64, (uint-tells w64, tt)))))
       (λ κs qs bounds a g are. needs 𝓤 _ _
       (walk 𝓤 H A W mem run (κs .0) (qs .0) (a .0) (a .1 .0) (a .1 .1 .0) (a .1 .1 .1 .0) (record { flagged = are .1 .0; lo-fits = are .1 .1 .0 .1; hi-fits = are .1 .1 .1 .0 .1 }) C Λ fm known
       (LL.lawful (T.the-type (namedLft 1 0 tt κs)) (T′.the-laws (namedLft 1 0 tt κs)) 𝓤 H A W .typed (a .0) _ (are .0) .0)))

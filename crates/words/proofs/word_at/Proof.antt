@@ -89,7 +89,7 @@ module _ {M : Type 1} (𝓤 : URA M) (H : Heap 𝓤) (A : Atoms 𝓤) (W : Given
 
   -- what the contracts ask of them
   abbrev Required : RefT (List ℕ) → ℕ → Type 0
-  Required x m = (lo ≤ hi) × (hi ≤ 34) × (m ≤ length (now x))
+  Required x m = (lo ≤ hi) × (hi ≤ 36) × (m ≤ length (now x))
 
   -- the struct's type as a local of a body has it
   abbrev αᵉ : NamedLft
@@ -155,7 +155,7 @@ module _ {M : Type 1} (𝓤 : URA M) (H : Heap 𝓤) (A : Atoms 𝓤) (W : Given
         qed W (raw (onEntry 𝓤 H A word-at.signature (κ, tt) (q, tt) args at) ∷ []) ∵ enter ! C Λ code.function (v ∷ vint w64 n ∷ flags may ∷ vint w64 lo ∷ vint w64 hi ∷ []) _ $
         alloc1 ! (λ l₀. alloc1 ! (λ l₁. alloc1 ! (λ l₂. alloc1 ! (λ l₃. alloc1 ! (λ l₄. alloc1 ! (λ l₅. alloc1 ! (λ l₆. alloc0 ! $ params1 ! $
         pass1 ! (init ! 10 refl (shr-slice-lawful 𝓤 H A W (named 0) κ u8 .typed s (v ∷ []) p .0)) $ pass1 ! (init ! 8 refl (tt, record { fits = fits })) $
-        pass1 ! (init ! 6 refl (array-lawful 𝓤 H A W Boolean (bool-lawful 𝓤 H A W) 34 .typed may _ (k .flagged) .0)) $
+        pass1 ! (init ! 6 refl (array-lawful 𝓤 H A W Boolean (bool-lawful 𝓤 H A W) 36 .typed may _ (k .flagged) .0)) $
         pass1 ! (init ! 4 refl (tt, record { fits = k .lo-fits })) $ pass1 ! (init ! 2 refl (tt, record { fits = k .hi-fits })) $ pass0 ! $
         move ! (14 ∷ []) $ use1 W (raw (ReaderAt 𝓤 H A mem run .pre to-reader-at) ⊛ ‵ Own) goes-reader-at $ split ! $
         calls-at ! fm (ReaderAt 𝓤 H A mem run) known-reader-at to-reader-at (and-then ! (load ! (from ! (stop !)) (look ! 12 refl)) (and-then ! (load ! (from ! (stop !)) (look ! 10 refl)) (no-more !))) (λ u.
@@ -182,7 +182,7 @@ module _ {M : Type 1} (𝓤 : URA M) (H : Heap 𝓤) (A : Atoms 𝓤) (W : Given
       → Walks 𝓤 H A word-at.ended stayed (WpFn 𝓤 H C Λ code.function) (word-at.clauses 𝓤 H A mem run)
   word-at-walks C Λ fm known-reader-at known-word = walked 𝓤 H A word-at.ended stayed (word-at.clauses 𝓤 H A mem run) (WpFn 𝓤 H C Λ code.function)
       (λ κs. (slice-vals, (uint-vals w64, (array-vals bool-vals, (uint-vals w64, (uint-vals w64, tt))))))
-      (λ κs. (shr-slice-tells (named 0) (κs .0) u8, (uint-tells w64, (array-tells Boolean bool-vals bool-tells 34, (uint-tells w64, (uint-tells w64, tt))))))
+      (λ κs. (shr-slice-tells (named 0) (κs .0) u8, (uint-tells w64, (array-tells Boolean bool-vals bool-tells 36, (uint-tells w64, (uint-tells w64, tt))))))
       (λ κs qs bounds a g are. needs 𝓤 _ _
       (walk 𝓤 H A W mem run (κs .0) (qs .0) (a .0) (a .1 .0) (are .1 .0 .1) (a .1 .1 .0) (a .1 .1 .1 .0) (a .1 .1 .1 .1 .0)
       (record { flagged = are .1 .1 .0; lo-fits = are .1 .1 .1 .0 .1; hi-fits = are .1 .1 .1 .1 .0 .1 }) C Λ fm known-reader-at known-word (are .0)))

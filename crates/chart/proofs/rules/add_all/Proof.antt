@@ -8,7 +8,7 @@ abbrev Inv-loop : tie.InvT-loop
 Inv-loop chart₀ place rule₀ chart rule = Unit {0}
 
 abbrev μ-loop : tie.MeasureT-loop
-μ-loop chart₀ place rule₀ chart rule = 52 - rule
+μ-loop chart₀ place rule₀ chart rule = 54 - rule
 
 loop-holds : tie.Need-loop-holds Inv-loop μ-loop
 loop-holds c = search needs

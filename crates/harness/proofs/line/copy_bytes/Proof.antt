@@ -1,11 +1,14 @@
--- `harness::line::copy_bytes` is safe and ends.
+-- `harness::line::copy_bytes` is safe and ends, and the buffer stays as long as it is.
 use Prim.Native.Nat.{_-_}
+use native.Mathlib.Omega.{arith}
+use mathlib.Core.Path.{_≡_, refl}
+use lib.ListN.{length}
 use borrow.Author.Needs.{needs}
 use Rattle.harness.proofs.line.copy_bytes.Statement.{statement}
 use Rattle.harness.proofs.line.copy_bytes.Tie as tie
 
 abbrev Inv-loop : tie.InvT-loop
-Inv-loop line part to₀ count k₀ to k = Unit {0}
+Inv-loop line part to₀ count k₀ to k = length to ≡ length to₀
 
 abbrev μ-loop : tie.MeasureT-loop
 μ-loop line part to₀ count k₀ to k = count - k
@@ -14,7 +17,7 @@ length-requires : tie.Need-length-requires Inv-loop μ-loop
 length-requires c κs = search needs
 
 loop-holds : tie.Need-loop-holds Inv-loop μ-loop
-loop-holds c = search needs
+loop-holds c = refl
 
 number-requires : tie.Need-number-requires Inv-loop μ-loop
 number-requires c κs = search needs
@@ -29,7 +32,10 @@ loop-less : tie.Need-loop-less Inv-loop μ-loop
 loop-less c = search needs
 
 loop-again : tie.Need-loop-again Inv-loop μ-loop
-loop-again c = search needs
+loop-again c = omega (arith, c .before .before .put-byte .kept .0, c .before .before .before .before .before .before .loop .inv)
+
+same-length : tie.Need-same-length Inv-loop μ-loop
+same-length c = c .before .loop .inv
 
 returns : tie.Need-returns Inv-loop μ-loop
 returns c = search needs
@@ -47,4 +53,5 @@ copy-bytes-spec =
     add-k
     loop-less
     loop-again
+    same-length
     returns)

@@ -13,8 +13,8 @@ abbrev μ-loop : tie.MeasureT-loop
 loop-holds : tie.Need-loop-holds Inv-loop μ-loop
 loop-holds c = search needs
 
-fill-entry-requires : tie.Need-fill-entry-requires Inv-loop μ-loop
-fill-entry-requires c κs = search needs
+fill-table-requires : tie.Need-fill-table-requires Inv-loop μ-loop
+fill-table-requires c κs = search needs
 
 add-e : tie.Need-add-e Inv-loop μ-loop
 add-e c = search needs
@@ -31,4 +31,4 @@ returns c = search needs
 pub fill-entries-spec : {M : Type 1} → statement M
 fill-entries-spec =
     tie.close
-    (tie.spec Inv-loop μ-loop loop-holds fill-entry-requires add-e loop-less loop-again returns)
+    (tie.spec Inv-loop μ-loop loop-holds fill-table-requires add-e loop-less loop-again returns)

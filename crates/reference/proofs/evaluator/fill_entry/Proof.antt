@@ -5,13 +5,10 @@ use Rattle.reference.proofs.evaluator.fill_entry.Statement.{statement}
 use Rattle.reference.proofs.evaluator.fill_entry.Tie as tie
 
 abbrev Inv-loop : tie.InvT-loop
-Inv-loop pairs₀ tree query nodes e n f x₀ pairs x = Unit {0}
+Inv-loop pairs₀ tree nodes e f n x₀ pairs x = Unit {0}
 
 abbrev μ-loop : tie.MeasureT-loop
-μ-loop pairs₀ tree query nodes e n f x₀ pairs x = n - x
-
-entry-of-requires : tie.Need-entry-of-requires Inv-loop μ-loop
-entry-of-requires c κs = search needs
+μ-loop pairs₀ tree nodes e f n x₀ pairs x = n - x
 
 loop-holds : tie.Need-loop-holds Inv-loop μ-loop
 loop-holds c = search needs
@@ -37,7 +34,6 @@ fill-entry-spec =
     (tie.spec
     Inv-loop
     μ-loop
-    entry-of-requires
     loop-holds
     fill-row-requires
     add-x

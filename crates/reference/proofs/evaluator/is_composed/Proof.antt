@@ -5,10 +5,10 @@ use Rattle.reference.proofs.evaluator.is_composed.Statement.{statement}
 use Rattle.reference.proofs.evaluator.is_composed.Tie as tie
 
 abbrev Inv-loop : tie.InvT-loop
-Inv-loop pairs n l r x y z₀ z = Unit {0}
+Inv-loop pairs n l r back x y z₀ z = Unit {0}
 
 abbrev μ-loop : tie.MeasureT-loop
-μ-loop pairs n l r x y z₀ z = n - z
+μ-loop pairs n l r back x y z₀ z = n - z
 
 loop-holds : tie.Need-loop-holds Inv-loop μ-loop
 loop-holds c = search needs
@@ -16,8 +16,8 @@ loop-holds c = search needs
 related-requires : tie.Need-related-requires Inv-loop μ-loop
 related-requires c κs = search needs
 
-related-requires-2 : tie.Need-related-requires-2 Inv-loop μ-loop
-related-requires-2 c κs = search needs
+turned-requires : tie.Need-turned-requires Inv-loop μ-loop
+turned-requires c κs = search needs
 
 returns : tie.Need-returns Inv-loop μ-loop
 returns c = search needs
@@ -42,7 +42,7 @@ is-composed-spec =
     μ-loop
     loop-holds
     related-requires
-    related-requires-2
+    turned-requires
     returns
     add-z
     loop-less

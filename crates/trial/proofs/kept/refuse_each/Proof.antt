@@ -8,7 +8,7 @@ abbrev Inv-loop : tie.InvT-loop
 Inv-loop tally₀ seed₀ shared query columns i₀ tally seed i = Unit {0}
 
 abbrev μ-loop : tie.MeasureT-loop
-μ-loop tally₀ seed₀ shared query columns i₀ tally seed i = 6 - i
+μ-loop tally₀ seed₀ shared query columns i₀ tally seed i = 8 - i
 
 loop-holds : tie.Need-loop-holds Inv-loop μ-loop
 loop-holds c = search needs

@@ -1,42 +1,57 @@
--- Path and node evaluation meet their contracts, as one cycle. Measure: three times the entry number; in a path 2 more, since it
--- hands its own entry on, and in by_rows 1 more.
+-- Path and node evaluation meet their contracts, as one cycle. Measure: three times the entry number; in a path 2 more, and in a node
+-- expression and in by_rows 1 more, since they hand their own entry on.
 use Prim.Native.Nat.{ℕ, _+_, _-_, _*_, _≤_, _<_}
 use native.Mathlib.Omega.{arith}
-use mathlib.Core.Path.{_≡_, refl, _∙_}
+use mathlib.Core.Path.{_≡_, refl, ap, _∙_}
 use mathlib.Core.Logic.{⊎-elim}
 use borrow.Author.Needs.{needs}
+use borrow.Author.Tests.{not-true, not-false}
 use borrow.Fn.Kinds.{In}
 use borrow.Fn.PlainCycle.{Measures, is, falls, and}
+use Rattle.model.specs.Sets.{bit, tab, upto}
 use Rattle.model.specs.Tree.{sizeOf}
+use Rattle.model.specs.Results.{related}
+use Rattle.model.proofs.Bytes.{fill-store, fill-done}
+use Rattle.model.proofs.Counts.{ones-bytes}
+use Rattle.eval.specs.Evaluation.{passing, passed, reached}
+use Rattle.eval.proofs.Calls.{kind-at, known-path, known-expr, either-operand, path-on-left, root-on-left, some-on-left, star-on-left, same-on-both, path-on-right, expr-on-left, filter-on-right, expr-on-right, variable-named, is-named, left-path, right-path, left-expr, right-expr, variable-within, variable-node, variable-small, axis-known}
+use Rattle.eval.proofs.Entries.{did-step, did-compose, did-filter, did-filter-back, part, rows-start, rows-skip, rows-more, rows-end, row-below, rows-count, did-operands, did-union, variable-one, did-variable, did-root, did-ending, did-exists, did-negate, did-both, did-either, did-is, did-star, same-hit, no-nodes}
+use Rattle.eval.proofs.Growing.{Growing, missing, start-within, more, fewer, done}
+use Rattle.eval.proofs.by_rows.Reads as by-rows
+use Rattle.eval.proofs.by_rows.Kinds as by-rows-kinds
+use Rattle.eval.proofs.+by_rows+ends+node+operands+path+same+star.Lts-by_rows as by-rows-lts
+use Rattle.eval.proofs.ends.Reads as ends
+use Rattle.eval.proofs.ends.Kinds as ends-kinds
+use Rattle.eval.proofs.+by_rows+ends+node+operands+path+same+star.Lts-ends as ends-lts
+use Rattle.eval.proofs.node.Reads as node
+use Rattle.eval.proofs.node.Kinds as node-kinds
+use Rattle.eval.proofs.+by_rows+ends+node+operands+path+same+star.Lts-node as node-lts
+use Rattle.eval.proofs.operands.Reads as operands
+use Rattle.eval.proofs.operands.Kinds as operands-kinds
+use Rattle.eval.proofs.+by_rows+ends+node+operands+path+same+star.Lts-operands as operands-lts
+use Rattle.eval.proofs.path.Reads as path
+use Rattle.eval.proofs.path.Kinds as path-kinds
+use Rattle.eval.proofs.+by_rows+ends+node+operands+path+same+star.Lts-path as path-lts
+use Rattle.eval.proofs.same.Reads as same
+use Rattle.eval.proofs.same.Kinds as same-kinds
+use Rattle.eval.proofs.+by_rows+ends+node+operands+path+same+star.Lts-same as same-lts
+use Rattle.eval.proofs.star.Reads as star
+use Rattle.eval.proofs.star.Kinds as star-kinds
+use Rattle.eval.proofs.+by_rows+ends+node+operands+path+same+star.Lts-star as star-lts
+use Rattle.eval.proofs.choose.Reads as choose-reads
+use Rattle.eval.proofs.ending_image.Reads as ending-image-reads
+use Rattle.eval.proofs.variable.Reads as variable-reads
 use Rattle.query.proofs.entry_at.Reads as entry-at-reads
+use Rattle.sets.proofs.byte.Reads as byte-reads
 use Rattle.sets.proofs.combined.Reads as combined-reads
 use Rattle.sets.proofs.combined_counted.Reads as combined-counted-reads
 use Rattle.sets.proofs.count_of.Reads as count-of-reads
 use Rattle.sets.proofs.full.Reads as full-reads
+use Rattle.sets.proofs.occupied.Reads as occupied-reads
 use Rattle.sets.proofs.single.Reads as single-reads
 use Rattle.steps.proofs.step.Reads as step-reads
-use Rattle.eval.proofs.Calls.{kind-at, either-operand, path-on-left, root-on-left, some-on-left, path-on-right, expr-on-left, filter-on-right, expr-on-right, variable-named, is-named, left-path, right-path, left-expr, right-expr, variable-within, variable-node, variable-small, axis-known}
-use Rattle.eval.proofs.Entries.{did-step, did-compose, did-filter, did-filter-back, part, rows-start, rows-skip, rows-more, rows-end, rows-count, did-operands, did-union, variable-one, did-variable, did-root, row-below, did-ending, did-exists, did-negate, did-both, did-either, did-is}
-use Rattle.eval.proofs.by_rows.Reads as by-rows
-use Rattle.eval.proofs.by_rows.Kinds as by-rows-kinds
-use Rattle.eval.proofs.+by_rows+ends+node+operands+path.Lts-by_rows as by-rows-lts
-use Rattle.eval.proofs.ends.Reads as ends
-use Rattle.eval.proofs.ends.Kinds as ends-kinds
-use Rattle.eval.proofs.+by_rows+ends+node+operands+path.Lts-ends as ends-lts
-use Rattle.eval.proofs.node.Reads as node
-use Rattle.eval.proofs.node.Kinds as node-kinds
-use Rattle.eval.proofs.+by_rows+ends+node+operands+path.Lts-node as node-lts
-use Rattle.eval.proofs.operands.Reads as operands
-use Rattle.eval.proofs.operands.Kinds as operands-kinds
-use Rattle.eval.proofs.+by_rows+ends+node+operands+path.Lts-operands as operands-lts
-use Rattle.eval.proofs.path.Reads as path
-use Rattle.eval.proofs.path.Kinds as path-kinds
-use Rattle.eval.proofs.+by_rows+ends+node+operands+path.Lts-path as path-lts
-use Rattle.eval.proofs.choose.Reads as choose-reads
-use Rattle.eval.proofs.ending_image.Reads as ending-image-reads
-use Rattle.eval.proofs.variable.Reads as variable-reads
-use Rattle.eval.proofs.+by_rows+ends+node+operands+path.{statement}
-use Rattle.eval.proofs.+by_rows+ends+node+operands+path.Tie.{close}
+use Rattle.eval.proofs.+by_rows+ends+node+operands+path+same+star.{statement}
+use Rattle.eval.proofs.+by_rows+ends+node+operands+path+same+star.Tie.{close}
 
 abbrev μ-by-rows : Measures 5 by-rows-kinds.ps ℕ
 μ-by-rows κs a = 3 * a .1 .1 .1 .1 .0 + 1
@@ -45,13 +60,19 @@ abbrev μ-ends : Measures 5 ends-kinds.ps ℕ
 μ-ends κs a = 3 * a .1 .1 .1 .1 .0
 
 abbrev μ-node : Measures 5 node-kinds.ps ℕ
-μ-node κs a = 3 * a .1 .1 .1 .1 .0
+μ-node κs a = 3 * a .1 .1 .1 .1 .0 + 1
 
 abbrev μ-operands : Measures 5 operands-kinds.ps ℕ
 μ-operands κs a = 3 * a .1 .1 .1 .1 .0
 
 abbrev μ-path : Measures 5 path-kinds.ps ℕ
 μ-path κs a = 3 * a .1 .1 .1 .1 .0 + 2
+
+abbrev μ-same : Measures 5 same-kinds.ps ℕ
+μ-same κs a = 3 * a .1 .1 .1 .1 .0
+
+abbrev μ-star : Measures 5 star-kinds.ps ℕ
+μ-star κs a = 3 * a .1 .1 .1 .1 .0
 
 abbrev by-rows-at : ℕ → In 5 by-rows-kinds.ps
 by-rows-at t = and 5 by-rows-kinds.ps (is 5 by-rows-kinds.ps μ-by-rows t) by-rows.Pre
@@ -84,6 +105,18 @@ path-at t = and 5 path-kinds.ps (is 5 path-kinds.ps μ-path t) path.Pre
 abbrev path-below : ℕ → In 5 path-kinds.ps
 path-below t = and 5 path-kinds.ps (falls 5 path-kinds.ps _<_ μ-path t) path.Pre
 
+abbrev same-at : ℕ → In 5 same-kinds.ps
+same-at t = and 5 same-kinds.ps (is 5 same-kinds.ps μ-same t) same.Pre
+
+abbrev same-below : ℕ → In 5 same-kinds.ps
+same-below t = and 5 same-kinds.ps (falls 5 same-kinds.ps _<_ μ-same t) same.Pre
+
+abbrev star-at : ℕ → In 5 star-kinds.ps
+star-at t = and 5 star-kinds.ps (is 5 star-kinds.ps μ-star t) star.Pre
+
+abbrev star-below : ℕ → In 5 star-kinds.ps
+star-below t = and 5 star-kinds.ps (falls 5 star-kinds.ps _<_ μ-star t) star.Pre
+
 abbrev by-rows-claims : ℕ → by-rows-lts.Claims
 by-rows-claims t = (full-reads.Asked, full-reads.Learnt, single-reads.Asked, single-reads.Learnt, operands-below t, operands.Post, combined-reads.Asked, combined-reads.Learnt, count-of-reads.Asked, count-of-reads.Learnt)
 
@@ -91,19 +124,37 @@ abbrev ends-claims : ℕ → ends-lts.Claims
 ends-claims t = (entry-at-reads.Asked, entry-at-reads.Learnt, variable-reads.Asked, variable-reads.Learnt, single-reads.Asked, single-reads.Learnt, path-below t, path.Post)
 
 abbrev node-claims : ℕ → node-lts.Claims
-node-claims t = (entry-at-reads.Asked, entry-at-reads.Learnt, full-reads.Asked, full-reads.Learnt, path-below t, path.Post, node-below t, node.Post, combined-counted-reads.Asked, combined-counted-reads.Learnt, variable-reads.Asked, variable-reads.Learnt)
+node-claims t = (entry-at-reads.Asked, entry-at-reads.Learnt, full-reads.Asked, full-reads.Learnt, path-below t, path.Post, node-below t, node.Post, combined-counted-reads.Asked, combined-counted-reads.Learnt, variable-reads.Asked, variable-reads.Learnt, same-below t, same.Post)
 
 abbrev operands-claims : ℕ → operands-lts.Claims
 operands-claims t = (entry-at-reads.Asked, entry-at-reads.Learnt, path-below t, path.Post, combined-counted-reads.Asked, combined-counted-reads.Learnt)
 
 abbrev path-claims : ℕ → path-lts.Claims
-path-claims t = (entry-at-reads.Asked, entry-at-reads.Learnt, step-reads.Asked, step-reads.Learnt, choose-reads.Asked, choose-reads.Learnt, path-below t, path.Post, operands-below t, operands.Post, by-rows-below t, by-rows.Post, node-below t, node.Post, combined-reads.Asked, combined-reads.Learnt, combined-counted-reads.Asked, combined-counted-reads.Learnt, ends-below t, ends.Post, ending-image-reads.Asked, ending-image-reads.Learnt)
+path-claims t = (entry-at-reads.Asked, entry-at-reads.Learnt, step-reads.Asked, step-reads.Learnt, choose-reads.Asked, choose-reads.Learnt, path-below t, path.Post, operands-below t, operands.Post, by-rows-below t, by-rows.Post, node-below t, node.Post, combined-reads.Asked, combined-reads.Learnt, combined-counted-reads.Asked, combined-counted-reads.Learnt, star-below t, star.Post, ends-below t, ends.Post, ending-image-reads.Asked, ending-image-reads.Learnt)
+
+abbrev same-claims : ℕ → same-lts.Claims
+same-claims t = (entry-at-reads.Asked, entry-at-reads.Learnt, full-reads.Asked, full-reads.Learnt, single-reads.Asked, single-reads.Learnt, path-below t, path.Post, combined-reads.Asked, combined-reads.Learnt, occupied-reads.Asked, occupied-reads.Learnt, byte-reads.Asked, byte-reads.Learnt, count-of-reads.Asked, count-of-reads.Learnt)
+
+abbrev star-claims : ℕ → star-lts.Claims
+star-claims t = (entry-at-reads.Asked, entry-at-reads.Learnt, full-reads.Asked, full-reads.Learnt, combined-reads.Asked, combined-reads.Learnt, path-below t, path.Post, occupied-reads.Asked, occupied-reads.Learnt, count-of-reads.Asked, count-of-reads.Learnt)
 
 abbrev by-rows-Inv-loop : by-rows-lts.InvT-loop
 by-rows-Inv-loop tree prev query nodes e back count₀ from n found₀ x₀ count found x = (x ≤ n) × ((n ≡ sizeOf tree) × (found ≡ part tree query nodes e back from x))
 
 abbrev by-rows-μ-loop : by-rows-lts.MeasureT-loop
 by-rows-μ-loop tree prev query nodes e back count₀ from n found₀ x₀ count found x = n - x
+
+abbrev same-Inv-loop : same-lts.InvT-loop
+same-Inv-loop tree prev query nodes e count₀ n l r starts₀ x₀ count starts x = (x ≤ n) × ((n ≡ sizeOf tree) × (starts ≡ tab 256 (upto x (passing tree query nodes e))))
+
+abbrev same-μ-loop : same-lts.MeasureT-loop
+same-μ-loop tree prev query nodes e count₀ n l r starts₀ x₀ count starts x = n - x
+
+abbrev star-Inv-loop : star-lts.InvT-loop
+star-Inv-loop tree prev query nodes e back count₀ n l known₀ last₀ count known last = (n ≡ sizeOf tree) × Growing (sizeOf tree) (related tree query nodes l back) known₀ known last
+
+abbrev star-μ-loop : star-lts.MeasureT-loop
+star-μ-loop tree prev query nodes e back count₀ n l known₀ last₀ count known last = missing (sizeOf tree) known
 
 by-rows-full-requires : (t : ℕ) → by-rows-lts.Need-full-requires (by-rows-claims t) (by-rows-at t) by-rows.Post by-rows-Inv-loop by-rows-μ-loop
 by-rows-full-requires t c κs = search needs
@@ -186,23 +237,29 @@ node-variable-requires t c κs = let p = c .before .before .before .before .befo
 node-returns-3 : (t : ℕ) → node-lts.Need-returns-3 (node-claims t) (node-at t) node.Post
 node-returns-3 t c = search (did-is, variable-node, variable-one, is-named, needs)
 
+node-same-requires : (t : ℕ) → node-lts.Need-same-requires (node-claims t) (node-at t) node.Post
+node-same-requires t c κs = let p = c .before .before .before .before .before .before .before .before .before .before .pre in let f = c .before .before .before .before .before .entry-at .ensures .0 in let k = kind-at f in (omega arith, (p .1 .0, omega arith))
+
+node-returns-4 : (t : ℕ) → node-lts.Need-returns-4 (node-claims t) (node-at t) node.Post
+node-returns-4 t c = search needs
+
 node-node-requires-2 : (t : ℕ) → node-lts.Need-node-requires-2 (node-claims t) (node-at t) node.Post
-node-node-requires-2 t c κs = let p = c .before .before .before .before .before .before .before .before .before .pre in let f = c .before .before .before .before .entry-at .ensures .0 in let k = kind-at f in let w = left-expr f (p .1 .0) (p .1 .1 .within) (expr-on-left (omega arith) (omega arith)) in (omega (arith, w .lower), (p .1 .0, w .kinds))
+node-node-requires-2 t c κs = let p = c .before .before .before .before .before .before .before .before .before .before .pre in let f = c .before .before .before .before .before .entry-at .ensures .0 in let k = kind-at f in let x = known-expr f (p .1 .0) (p .1 .1 .within) (p .1 .1 .sort) in let w = left-expr f (p .1 .0) (p .1 .1 .within) (expr-on-left (omega arith) (omega arith)) in (omega (arith, w .lower), (p .1 .0, w .kinds))
 
 node-node-requires-3 : (t : ℕ) → node-lts.Need-node-requires-3 (node-claims t) (node-at t) node.Post
-node-node-requires-3 t c κs = let p = c .before .before .before .before .before .before .before .before .before .before .before .pre in let f = c .before .before .before .before .before .before .entry-at .ensures .0 in let k = kind-at f in let w = right-expr f (p .1 .0) (p .1 .1 .within) (expr-on-right (omega arith) (omega arith)) in (omega (arith, w .lower), (p .1 .0, w .kinds))
+node-node-requires-3 t c κs = let p = c .before .before .before .before .before .before .before .before .before .before .before .before .pre in let f = c .before .before .before .before .before .before .before .entry-at .ensures .0 in let k = kind-at f in let x = known-expr f (p .1 .0) (p .1 .1 .within) (p .1 .1 .sort) in let w = right-expr f (p .1 .0) (p .1 .1 .within) (expr-on-right (omega arith) (omega arith)) in (omega (arith, w .lower), (p .1 .0, w .kinds))
 
 node-combined-counted-requires-2 : (t : ℕ) → node-lts.Need-combined-counted-requires-2 (node-claims t) (node-at t) node.Post
 node-combined-counted-requires-2 t c κs = search needs
 
-node-returns-4 : (t : ℕ) → node-lts.Need-returns-4 (node-claims t) (node-at t) node.Post
-node-returns-4 t c = let p = c .before .before .before .before .before .before .before .before .before .before .before .before .before .before .before .pre in let f = c .before .before .before .before .before .before .before .before .before .before .entry-at .ensures .0 in search (did-both, needs)
+node-returns-5 : (t : ℕ) → node-lts.Need-returns-5 (node-claims t) (node-at t) node.Post
+node-returns-5 t c = let p = c .before .before .before .before .before .before .before .before .before .before .before .before .before .before .before .before .pre in let f = c .before .before .before .before .before .before .before .before .before .before .before .entry-at .ensures .0 in search (did-both, needs)
 
 node-combined-counted-requires-3 : (t : ℕ) → node-lts.Need-combined-counted-requires-3 (node-claims t) (node-at t) node.Post
 node-combined-counted-requires-3 t c κs = search needs
 
-node-returns-5 : (t : ℕ) → node-lts.Need-returns-5 (node-claims t) (node-at t) node.Post
-node-returns-5 t c = let p = c .before .before .before .before .before .before .before .before .before .before .before .before .before .before .before .pre in let f = c .before .before .before .before .before .before .before .before .before .before .entry-at .ensures .0 in let k = kind-at f in let h : c .before .before .before .before .before .before .before .before .before .before .entry-at .result .kind ≡ 11 = omega arith in search (did-either, needs)
+node-returns-6 : (t : ℕ) → node-lts.Need-returns-6 (node-claims t) (node-at t) node.Post
+node-returns-6 t c = let p = c .before .before .before .before .before .before .before .before .before .before .before .before .before .before .before .before .pre in let f = c .before .before .before .before .before .before .before .before .before .before .before .entry-at .ensures .0 in let k = kind-at f in let x = known-expr f (p .1 .0) (p .1 .1 .within) (p .1 .1 .sort) in let h : c .before .before .before .before .before .before .before .before .before .before .before .entry-at .result .kind ≡ 11 = omega arith in search (did-either, needs)
 
 operands-entry-at-requires : (t : ℕ) → operands-lts.Need-entry-at-requires (operands-claims t) (operands-at t) operands.Post
 operands-entry-at-requires t c κs = search needs
@@ -282,18 +339,109 @@ path-combined-counted-requires t c κs = search needs
 path-returns-6 : (t : ℕ) → path-lts.Need-returns-6 (path-claims t) (path-at t) path.Post
 path-returns-6 t c = let p = c .before .before .before .before .before .before .before .before .before .before .before .before .before .before .before .before .before .pre in let f = c .before .before .before .before .before .before .before .before .before .before .before .before .entry-at .ensures .0 in search (did-filter, needs)
 
-path-ends-requires : (t : ℕ) → path-lts.Need-ends-requires (path-claims t) (path-at t) path.Post
-path-ends-requires t c κs = let p = c .before .before .before .before .before .before .before .before .before .before .before .pre in let f = c .before .before .before .before .before .before .entry-at .ensures .0 in let k = kind-at f in (omega arith, (p .1 .0, omega arith))
-
-path-ending-image-requires : (t : ℕ) → path-lts.Need-ending-image-requires (path-claims t) (path-at t) path.Post
-path-ending-image-requires t c κs = search (row-below, needs, c .before .before .before .before .before .before .before .before .before .before .before .before .before .pre .1 .0)
+path-star-requires : (t : ℕ) → path-lts.Need-star-requires (path-claims t) (path-at t) path.Post
+path-star-requires t c κs = let p = c .before .before .before .before .before .before .before .before .before .before .before .before .pre in let f = c .before .before .before .before .before .before .before .entry-at .ensures .0 in let k = kind-at f in (omega arith, (p .1 .0, omega arith))
 
 path-returns-7 : (t : ℕ) → path-lts.Need-returns-7 (path-claims t) (path-at t) path.Post
-path-returns-7 t c = let p = c .before .before .before .before .before .before .before .before .before .before .before .before .before .before .pre in let f = c .before .before .before .before .before .before .before .before .before .entry-at .ensures .0 in let k = kind-at f in (did-ending f (p .1 .0) (p .1 .1 .within) _ _ _ _ (c .ending-image .ensures .0) (c .before .before .ends .ensures .0) (omega arith) (omega arith), c .ending-image .ensures .1)
+path-returns-7 t c = search needs
 
-pub +by-rows+ends+node+operands+path-spec : {M : Type 1} → statement M
-+by-rows+ends+node+operands+path-spec =
-    close μ-by-rows μ-ends μ-node μ-operands μ-path (λ t. by-rows-lts.spec (by-rows-claims t)
+path-ends-requires : (t : ℕ) → path-lts.Need-ends-requires (path-claims t) (path-at t) path.Post
+path-ends-requires t c κs = let p = c .before .before .before .before .before .before .before .before .before .before .before .before .pre in let f = c .before .before .before .before .before .before .before .entry-at .ensures .0 in let k = kind-at f in let x = known-path f (p .1 .0) (p .1 .1 .within) (p .1 .1 .sort) (c .before .if7 .left) in (omega arith, (p .1 .0, omega arith))
+
+path-ending-image-requires : (t : ℕ) → path-lts.Need-ending-image-requires (path-claims t) (path-at t) path.Post
+path-ending-image-requires t c κs = search (row-below, needs, c .before .before .before .before .before .before .before .before .before .before .before .before .before .before .pre .1 .0)
+
+path-returns-8 : (t : ℕ) → path-lts.Need-returns-8 (path-claims t) (path-at t) path.Post
+path-returns-8 t c = let p = c .before .before .before .before .before .before .before .before .before .before .before .before .before .before .before .pre in let f = c .before .before .before .before .before .before .before .before .before .before .entry-at .ensures .0 in let k = kind-at f in let x = known-path f (p .1 .0) (p .1 .1 .within) (p .1 .1 .sort) (c .before .before .before .before .if7 .left) in (did-ending f (p .1 .0) (p .1 .1 .within) _ _ _ _ (c .ending-image .ensures .0) (c .before .before .ends .ensures .0) (omega arith) (omega arith), c .ending-image .ensures .1)
+
+same-entry-at-requires : (t : ℕ) → same-lts.Need-entry-at-requires (same-claims t) (same-at t) same.Post same-Inv-loop same-μ-loop
+same-entry-at-requires t c κs = search needs
+
+same-full-requires : (t : ℕ) → same-lts.Need-full-requires (same-claims t) (same-at t) same.Post same-Inv-loop same-μ-loop
+same-full-requires t c κs = search needs
+
+same-loop-holds : (t : ℕ) → same-lts.Need-loop-holds (same-claims t) (same-at t) same.Post same-Inv-loop same-μ-loop
+same-loop-holds t c = (omega arith, (refl, no-nodes _ _ (c .full .ensures)))
+
+same-single-requires : (t : ℕ) → same-lts.Need-single-requires (same-claims t) (same-at t) same.Post same-Inv-loop same-μ-loop
+same-single-requires t c κs = search needs
+
+same-path-requires : (t : ℕ) → same-lts.Need-path-requires (same-claims t) (same-at t) same.Post same-Inv-loop same-μ-loop
+same-path-requires t c κs = let p = c .before .before .before .before .before .before .before .before .before .before .pre in let f = c .before .before .before .before .before .entry-at .ensures .0 in let k = kind-at f in let w = left-path f (p .1 .0) (p .1 .1 .within) (same-on-both (omega arith) .0) in (omega (arith, w .lower), (p .1 .0, w .kinds))
+
+same-path-requires-2 : (t : ℕ) → same-lts.Need-path-requires-2 (same-claims t) (same-at t) same.Post same-Inv-loop same-μ-loop
+same-path-requires-2 t c κs = let p = c .before .before .before .before .before .before .before .before .before .before .before .before .pre in let f = c .before .before .before .before .before .before .before .entry-at .ensures .0 in let k = kind-at f in let w = right-path f (p .1 .0) (p .1 .1 .within) (same-on-both (omega arith) .1) in (omega (arith, w .lower), (p .1 .0, w .kinds))
+
+same-combined-requires : (t : ℕ) → same-lts.Need-combined-requires (same-claims t) (same-at t) same.Post same-Inv-loop same-μ-loop
+same-combined-requires t c κs = search needs
+
+same-occupied-requires : (t : ℕ) → same-lts.Need-occupied-requires (same-claims t) (same-at t) same.Post same-Inv-loop same-μ-loop
+same-occupied-requires t c κs = let p = c .before .before .before .before .before .before .before .before .before .before .before .before .before .before .pre in omega (arith, p .1 .0 .linked .tree .sound .at-most)
+
+same-byte-requires : (t : ℕ) → same-lts.Need-byte-requires (same-claims t) (same-at t) same.Post same-Inv-loop same-μ-loop
+same-byte-requires t c κs = search needs
+
+same-array-write-starts : (t : ℕ) → same-lts.Need-array-write-starts (same-claims t) (same-at t) same.Post same-Inv-loop same-μ-loop
+same-array-write-starts t c = let p = c .before .before .before .before .before .before .before .before .before .before .before .before .before .before .before .before .pre in omega (arith, p .1 .0 .linked .tree .sound .at-most)
+
+same-add-x : (t : ℕ) → same-lts.Need-add-x (same-claims t) (same-at t) same.Post same-Inv-loop same-μ-loop
+same-add-x t c = let p = c .before .before .before .before .before .before .before .before .before .before .before .before .before .before .before .before .pre in omega (arith, p .1 .0 .linked .tree .sound .at-most)
+
+same-loop-less : (t : ℕ) → same-lts.Need-loop-less (same-claims t) (same-at t) same.Post same-Inv-loop same-μ-loop
+same-loop-less t c = search needs
+
+same-loop-again : (t : ℕ) → same-lts.Need-loop-again (same-claims t) (same-at t) same.Post same-Inv-loop same-μ-loop
+same-loop-again t c = let p = c .before .before .before .before .before .before .before .before .before .before .before .before .before .before .before .before .pre in let f = c .before .before .before .before .before .before .before .before .before .before .before .entry-at .ensures .0 in let k = kind-at f in (omega arith, (c .before .before .before .before .before .before .before .before .before .loop .inv .1 .0, fill-store 256 _ _ _ _ (c .before .before .before .before .before .before .before .before .before .loop .inv .1 .1) (c .byte .ensures ∙ ap bit (same-hit f (p .1 .0) (p .1 .1 .within) _ _ _ _ _ _ (c .before .occupied .ensures) (c .before .before .combined .ensures) (c .before .before .before .before .before .path .ensures .0) (c .before .before .before .path2 .ensures .0) (c .before .before .before .before .before .before .before .single .ensures) (omega arith) (omega arith)))))
+
+same-count-of-requires : (t : ℕ) → same-lts.Need-count-of-requires (same-claims t) (same-at t) same.Post same-Inv-loop same-μ-loop
+same-count-of-requires t c κs = search needs
+
+same-returns : (t : ℕ) → same-lts.Need-returns (same-claims t) (same-at t) same.Post same-Inv-loop same-μ-loop
+unfolding passed
+same-returns t c = (fill-done 256 _ _ _ _ (c .before .before .loop .inv .1 .1) (omega arith) (omega arith), ones-bytes _ _ _ (c .count-of .ensures) (c .before .before .loop .inv .1 .1))
+
+star-entry-at-requires : (t : ℕ) → star-lts.Need-entry-at-requires (star-claims t) (star-at t) star.Post star-Inv-loop star-μ-loop
+star-entry-at-requires t c κs = search needs
+
+star-full-requires : (t : ℕ) → star-lts.Need-full-requires (star-claims t) (star-at t) star.Post star-Inv-loop star-μ-loop
+star-full-requires t c κs = search needs
+
+star-combined-requires : (t : ℕ) → star-lts.Need-combined-requires (star-claims t) (star-at t) star.Post star-Inv-loop star-μ-loop
+star-combined-requires t c κs = search needs
+
+star-loop-holds : (t : ℕ) → star-lts.Need-loop-holds (star-claims t) (star-at t) star.Post star-Inv-loop star-μ-loop
+star-loop-holds t c = let p = c .before .before .before .before .before .before .before .pre in (refl, start-within _ (p .1 .0 .linked .tree .sound .at-most) _ _ _ _ (c .combined .ensures) (c .before .full .ensures))
+
+star-path-requires : (t : ℕ) → star-lts.Need-path-requires (star-claims t) (star-at t) star.Post star-Inv-loop star-μ-loop
+star-path-requires t c κs = let p = c .before .before .before .before .before .before .before .before .before .pre in let f = c .before .before .before .before .entry-at .ensures .0 in let k = kind-at f in let w = left-path f (p .1 .0) (p .1 .1 .within) (star-on-left (omega arith)) in (omega (arith, w .lower), (p .1 .0, w .kinds))
+
+star-combined-requires-2 : (t : ℕ) → star-lts.Need-combined-requires-2 (star-claims t) (star-at t) star.Post star-Inv-loop star-μ-loop
+star-combined-requires-2 t c κs = search needs
+
+star-occupied-requires : (t : ℕ) → star-lts.Need-occupied-requires (star-claims t) (star-at t) star.Post star-Inv-loop star-μ-loop
+star-occupied-requires t c κs = let p = c .before .before .before .before .before .before .before .before .before .before .before .pre in omega (arith, p .1 .0 .linked .tree .sound .at-most)
+
+star-count-of-requires : (t : ℕ) → star-lts.Need-count-of-requires (star-claims t) (star-at t) star.Post star-Inv-loop star-μ-loop
+star-count-of-requires t c κs = search needs
+
+star-returns : (t : ℕ) → star-lts.Need-returns (star-claims t) (star-at t) star.Post star-Inv-loop star-μ-loop
+unfolding reached
+star-returns t c = let p = c .before .before .before .before .before .before .before .before .before .before .before .before .before .before .pre in let f = c .before .before .before .before .before .before .before .before .before .entry-at .ensures .0 in let k = kind-at f in let w = c .before .before .before .before .before .before .loop .inv .1 in (did-star f (p .1 .0) (p .1 .1 .within) _ _ _ _ _ (done _ (p .1 .0 .linked .tree .sound .at-most) _ _ _ _ _ _ w (c .before .before .before .before .path .ensures .0) (c .before .before .before .combined2 .ensures) _ (c .before .before .occupied .ensures) (not-true _ (c .before .if1 .taken))) (c .before .before .before .before .before .before .before .combined .ensures) (c .before .before .before .before .before .before .before .before .full .ensures) (omega arith), ones-bytes _ _ _ (c .count-of .ensures) (w .nodes))
+
+star-combined-requires-3 : (t : ℕ) → star-lts.Need-combined-requires-3 (star-claims t) (star-at t) star.Post star-Inv-loop star-μ-loop
+star-combined-requires-3 t c κs = search needs
+
+star-loop-less : (t : ℕ) → star-lts.Need-loop-less (star-claims t) (star-at t) star.Post star-Inv-loop star-μ-loop
+unfolding reached
+star-loop-less t c = let p = c .before .before .before .before .before .before .before .before .before .before .before .before .before .before .pre in fewer _ (p .1 .0 .linked .tree .sound .at-most) _ _ _ _ _ _ (c .before .before .before .before .before .before .loop .inv .1) (c .before .before .before .before .path .ensures .0) (c .before .before .before .combined2 .ensures) _ (c .combined3 .ensures) _ (c .before .before .occupied .ensures) (not-false _ (c .before .if1 .left))
+
+star-loop-again : (t : ℕ) → star-lts.Need-loop-again (star-claims t) (star-at t) star.Post star-Inv-loop star-μ-loop
+unfolding reached
+star-loop-again t c = let p = c .before .before .before .before .before .before .before .before .before .before .before .before .before .before .pre in (c .before .before .before .before .before .before .loop .inv .0, more _ (p .1 .0 .linked .tree .sound .at-most) _ _ _ _ _ _ (c .before .before .before .before .before .before .loop .inv .1) (c .before .before .before .before .path .ensures .0) (c .before .before .before .combined2 .ensures) _ (c .combined3 .ensures))
+
+pub +by-rows+ends+node+operands+path+same+star-spec : {M : Type 1} → statement M
++by-rows+ends+node+operands+path+same+star-spec =
+    close μ-by-rows μ-ends μ-node μ-operands μ-path μ-same μ-star (λ t. by-rows-lts.spec (by-rows-claims t)
     (by-rows-at t)
     by-rows.Post
     by-rows-Inv-loop
@@ -331,12 +479,14 @@ pub +by-rows+ends+node+operands+path-spec : {M : Type 1} → statement M
     (node-returns-2 t)
     (node-variable-requires t)
     (node-returns-3 t)
+    (node-same-requires t)
+    (node-returns-4 t)
     (node-node-requires-2 t)
     (node-node-requires-3 t)
     (node-combined-counted-requires-2 t)
-    (node-returns-4 t)
+    (node-returns-5 t)
     (node-combined-counted-requires-3 t)
-    (node-returns-5 t))
+    (node-returns-6 t))
     (λ t. operands-lts.spec (operands-claims t)
     (operands-at t)
     operands.Post
@@ -347,7 +497,7 @@ pub +by-rows+ends+node+operands+path-spec : {M : Type 1} → statement M
     (operands-cast-op t)
     (operands-combined-counted-requires t)
     (operands-returns t))
-    λ t. path-lts.spec (path-claims t)
+    (λ t. path-lts.spec (path-claims t)
     (path-at t)
     path.Post
     (path-entry-at-requires t)
@@ -369,6 +519,45 @@ pub +by-rows+ends+node+operands+path-spec : {M : Type 1} → statement M
     (path-path-requires-4 t)
     (path-combined-counted-requires t)
     (path-returns-6 t)
+    (path-star-requires t)
+    (path-returns-7 t)
     (path-ends-requires t)
     (path-ending-image-requires t)
-    (path-returns-7 t)
+    (path-returns-8 t))
+    (λ t. same-lts.spec (same-claims t)
+    (same-at t)
+    same.Post
+    same-Inv-loop
+    same-μ-loop
+    (same-entry-at-requires t)
+    (same-full-requires t)
+    (same-loop-holds t)
+    (same-single-requires t)
+    (same-path-requires t)
+    (same-path-requires-2 t)
+    (same-combined-requires t)
+    (same-occupied-requires t)
+    (same-byte-requires t)
+    (same-array-write-starts t)
+    (same-add-x t)
+    (same-loop-less t)
+    (same-loop-again t)
+    (same-count-of-requires t)
+    (same-returns t))
+    λ t. star-lts.spec (star-claims t)
+    (star-at t)
+    star.Post
+    star-Inv-loop
+    star-μ-loop
+    (star-entry-at-requires t)
+    (star-full-requires t)
+    (star-combined-requires t)
+    (star-loop-holds t)
+    (star-path-requires t)
+    (star-combined-requires-2 t)
+    (star-occupied-requires t)
+    (star-count-of-requires t)
+    (star-returns t)
+    (star-combined-requires-3 t)
+    (star-loop-less t)
+    (star-loop-again t)
