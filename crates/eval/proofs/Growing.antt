@@ -6,9 +6,9 @@ use mathlib.Core.Path.{_≡_, refl, sym, ap, ap₂, _∙_}
 use mathlib.Core.Logic.{⊎-elim}
 use mathlib.Core.Bool.{Bool, true, false, not, _&&_, _||_}
 use mathlib.Core.List.{List}
-use borrow.Author.Tests.{not-true, not-false}
+use borrow.Author.Tests.{not-true}
 use Rattle.model.specs.Sets.{any, bit, tab, memb, upto, image, closed}
-use Rattle.model.proofs.Booleans.{Seen, seen, no-yes, bool-ext, both-yes, yes-left, yes-right, or-left, or-right, or-cases, guarded}
+use Rattle.model.proofs.Booleans.{Seen, seen, no-yes, bool-ext, both-yes, yes-left, yes-right, or-left, or-right, or-cases}
 use Rattle.model.proofs.Booleans.Seen.{yes!, no! }
 use Rattle.model.proofs.Exists.{any-intro, any-elim, none-of}
 use Rattle.model.proofs.Bytes.{memb-tab}

@@ -2,13 +2,13 @@
 use Prim.Native.Nat.{ℕ, zero, suc, _≤_, _<_}
 use native.Mathlib.Nat.{not-suc-le-zero, le-of-suc-le-suc, eq-or-lt-of-le}
 use native.Mathlib.Omega.{arith}
-use mathlib.Core.Path.{_≡_, refl, sym, ap, ap₂, _∙_, subst}
+use mathlib.Core.Path.{_≡_, refl, subst}
 use mathlib.Core.Logic.{⊎-elim}
-use mathlib.Core.Bool.{Bool, true, false, _&&_, _||_, and-comm}
+use mathlib.Core.Bool.{Bool, true, _&&_, and-comm}
 use lib.Dec.{eqb}
 use borrow.Author.Tests.{eq-eqb, eqb-true}
 use Rattle.model.specs.Sets.{via, closed}
-use Rattle.model.proofs.Booleans.{bool-ext, both-yes, yes-left, yes-right, or-left, or-right, or-cases}
+use Rattle.model.proofs.Booleans.{both-yes, yes-left, yes-right, or-left, or-right, or-cases}
 use Rattle.model.proofs.Axes.{eqb-comm}
 
 module _ (R : ℕ → ℕ → Bool) where
