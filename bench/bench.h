@@ -21,6 +21,16 @@ struct query {
     size_t start;
 };
 
+/* A query with variables and all its answers, count rows of one node for each variable. */
+struct answers {
+    const char *text;
+    const uint16_t *table;
+    size_t length;
+    uint16_t columns;
+    const uint16_t *due;
+    size_t count;
+};
+
 /* An engine. It reads the document, or takes the shared table, once and compiles each query once; call is what is timed. */
 struct engine {
     const char *name;

@@ -3,21 +3,28 @@
    cursor, until they end or RUN_NS have passed, and counts the rows that it was given. Then the time to list all answers of a query at
    256 nodes: by quick pages, by plain ones, and by the program, from a job file to its last line. Each must give exactly the rows that
    are due, which are read off the tree; one difference ends the run with status 1. A time is the best of ROUNDS rounds, or of as many as
-   go into LIST_NS. It prints two tables in Markdown.
+   go into LIST_NS. Last, all answers by plain pages of queries that have few, or none, and that quick pages mostly refuse: each in a
+   process of its own, which is stopped after LIMIT_S seconds. It prints three tables in Markdown.
 
-       pages PROGRAM JOB      the program, and a file for its jobs */
+       pages PROGRAM JOB [OLD]    the program, a file for its jobs and, to be shown beside in the last table, this program linked with
+                                  another library
+       pages NUMBER               one cell of the last table */
 #include "geznauri.h"
 #include "bench.h"
 #include "tables.h"
+#include <signal.h>
 #include <stdio.h>
 #include <stdlib.h>
 #include <string.h>
+#include <sys/wait.h>
+#include <unistd.h>
 
 #define PAGE 256
 #define RUN_NS 3e8
 #define ROUNDS 7
 #define LIST_NS 2e9
 #define MOST_ROWS 256
+#define LIMIT_S 30
 #define LENGTH(a) (sizeof(a) / sizeof *(a))
 
 /* /descendant-or-self::*[. is $0]: a variable beyond the first plays no part, so that every row is an answer */
@@ -29,6 +36,13 @@ static const uint16_t children[] = {0, 11, 0, 65535, 12, 0, 0, 0, 5, 0, 1, 0, 7,
 enum { HALL = 1, BAY, PALLET, AISLE };
 static const uint16_t places[] = {0, 1, 0, AISLE, 12, 0, 0, 0, 5, 0, 1, 0, 0, 1, 0, BAY, 12, 1, 0, 0, 5, 3, 4, 0, 1, 2, 5, 0,
                                   0, 1, 0, PALLET, 12, 2, 0, 0, 5, 7, 8, 0, 1, 6, 9, 0};
+
+/* child::aisle[. is $0]/child::bay[. is $1]/(child::pallet intersect $2) */
+static const uint16_t met[] = {0, 1, 0, AISLE, 12, 0, 0, 0, 5, 0, 1, 0, 0, 1, 0, BAY, 12, 1, 0, 0, 5, 3, 4, 0, 1, 2, 5, 0,
+                               0, 1, 0, PALLET, 6, 2, 0, 0, 3, 7, 8, 0, 1, 6, 9, 0};
+/* the whole of places, intersect descendant::* */
+static const uint16_t below[] = {0, 1, 0, AISLE, 12, 0, 0, 0, 5, 0, 1, 0, 0, 1, 0, BAY, 12, 1, 0, 0, 5, 3, 4, 0, 1, 2, 5, 0,
+                                 0, 1, 0, PALLET, 12, 2, 0, 0, 5, 7, 8, 0, 1, 6, 9, 0, 0, 5, 0, 65535, 3, 10, 11, 0};
 
 static void give_up_at(uint16_t number, uint16_t place)
 {
@@ -189,9 +203,11 @@ static uint16_t put(uint16_t parent, uint16_t tag)
     return hall_nodes++;
 }
 
-static void time_places(void)
+/* The places of its pallets. */
+static struct list places_by(const char *text, const uint16_t *query, size_t length)
 {
-    struct list l = {"child::aisle[. is $0]/child::bay[. is $1]/child::pallet[. is $2]", hall, 256, places, LENGTH(places), 3, {0}, 0};
+    struct list l = {text, hall, 256, query, length, 3, {0}, 0};
+    hall_nodes = 0;
     put(65535, HALL);
     for (int i = 0; i < 5; i++) {
         uint16_t aisle = put(0, AISLE);
@@ -203,13 +219,97 @@ static void time_places(void)
             }
         }
     }
+    return l;
+}
+
+static void time_places(void)
+{
+    struct list l = places_by("child::aisle[. is $0]/child::bay[. is $1]/child::pallet[. is $2]", places, LENGTH(places));
     time_list(&l);
+}
+
+/* The queries of which plain pages alone are timed: those of tables.h, and the places of pallets in other words. */
+#define FEW (LENGTH(answers) + 2)
+
+static struct list few(size_t k)
+{
+    if (k == LENGTH(answers))
+        return places_by("child::aisle[. is $0]/child::bay[. is $1]/(child::pallet intersect $2)", met, LENGTH(met));
+    if (k > LENGTH(answers))
+        return places_by("child::aisle[. is $0]/child::bay[. is $1]/child::pallet[. is $2] intersect descendant::*", below, LENGTH(below));
+    struct list l = {answers[k].text, shared, NODES, answers[k].table, answers[k].length, answers[k].columns, {0}, answers[k].count};
+    same(l.count <= MOST_ROWS, "the room for answers");
+    memcpy(l.due, answers[k].due, l.count * l.columns * 2);
+    return l;
+}
+
+/* The text is read as the table that is timed. */
+static void compare_text(const struct list *l)
+{
+    static const uint8_t tags[] = "\2t0\2t1\2t2\2t3\2t4\2t5\2t6\2t7\2t8\2t9", names[] = "\1-\4hall\3bay\6pallet\5aisle";
+    const uint8_t *table = l->tree == hall ? names : tags;
+    uint16_t query[256];
+    gz_read_reply r = gz_read((const uint8_t *)l->text, strlen(l->text), table, strlen((const char *)table), NULL, 0, query, LENGTH(query));
+    same(r.number == 0 && r.count == l->length && memcmp(query, l->query, 2 * r.count) == 0, l->text);
+}
+
+/* The cell of a query: the best milliseconds, or that it was stopped. */
+static void few_cell(size_t k, char *cell, size_t room)
+{
+    struct list l = few(k);
+    int ends[2], status;
+    double ms = 0;
+    compare_text(&l);
+    same(pipe(ends) == 0, "a pipe");
+    pid_t child = fork();
+    if (child == 0) {
+        alarm(LIMIT_S);
+        ms = best(list_pages, &l, 0);
+        _exit(write(ends[1], &ms, sizeof ms) == sizeof ms ? 0 : 1);
+    }
+    close(ends[1]);
+    same(child > 0 && waitpid(child, &status, 0) == child, "a process");
+    if (WIFSIGNALED(status) && WTERMSIG(status) == SIGALRM)
+        snprintf(cell, room, "> %d s", LIMIT_S);
+    else
+        same(WIFEXITED(status) && WEXITSTATUS(status) == 0 && read(ends[0], &ms, sizeof ms) == sizeof ms, l.text);
+    if (ms > 0)
+        snprintf(cell, room, "%.3f", ms);
+    close(ends[0]);
+}
+
+static void time_few(const char *old)
+{
+    printf(old ? "\n| all answers by plain pages, 256 nodes | variables | answers | gz_page, ms | before, ms |\n|---|---:|---:|---:|---:|\n"
+               : "\n| all answers by plain pages, 256 nodes | variables | answers | gz_page, ms |\n|---|---:|---:|---:|\n");
+    for (size_t k = 0; k < FEW; k++) {
+        char cell[64], command[1000];
+        struct list l = few(k);
+        fflush(stdout);
+        few_cell(k, cell, sizeof cell);
+        printf("| `%s` | %u | %zu | %s |", l.text, l.columns, l.count, cell);
+        if (old) {
+            snprintf(command, sizeof command, "%s %zu", old, k);
+            FILE *printed = popen(command, "r");
+            same(printed && fgets(cell, sizeof cell, printed) && pclose(printed) == 0, old);
+            printf(" %.*s |", (int)strcspn(cell, "\n"), cell);
+        }
+        printf("\n");
+    }
 }
 
 int main(int argc, char **argv)
 {
-    if (argc != 3) {
-        fprintf(stderr, "bench: the two arguments are the program and a file for its jobs\n");
+    if (argc == 2) {
+        char cell[64];
+        size_t k = (size_t)atoi(argv[1]);
+        same(k < FEW, "the number of a query");
+        few_cell(k, cell, sizeof cell);
+        printf("%s\n", cell);
+        return 0;
+    }
+    if (argc != 3 && argc != 4) {
+        fprintf(stderr, "bench: the arguments are the program, a file for its jobs and, if any, this program with another library\n");
         return 1;
     }
     program = argv[1], job = argv[2];
@@ -221,5 +321,6 @@ int main(int argc, char **argv)
     printf("|---|---:|---:|---:|---:|---:|---:|\n");
     time_children();
     time_places();
+    time_few(argc == 4 ? argv[3] : NULL);
     return 0;
 }

@@ -13,7 +13,7 @@
  *     cc -I include program.c target/staticlib/libterminal.a
  *
  * The archive defines the functions of section 11 and no other global symbol. It needs two functions of the C library, which
- * compilers call of their own accord: memcpy, memset. It has less than 84 KiB of code and constants, and has no variables.
+ * compilers call of their own accord: memcpy, memset. It has less than 112 KiB of code and constants, and has no variables.
  *
  * Contents:  1 For every call   2 Tree table and parties   3 Query table   4 Node sets and relations   5 Answers, pages, cursors
  *            6 Name tables   7 Typed queries   8 Indexes   9 Numbers of refusal   10 Types   11 Functions
@@ -38,10 +38,12 @@
  *
  * Stack. gz_check_tree, gz_check_query and gz_name take less than 1 KiB; gz_seen, gz_index, gz_descendants, gz_pack, gz_unpack and gz_read,
  * however deep its text nests, take less than 4 KiB. gz_pairs_bits takes less than 56 KiB for every query, so that its stack and a relation
- * of 256 nodes in bits, 8 KiB, take less than the 64 KiB of one in bytes; the worst shape that was measured takes 52,992 bytes, a run of
- * steps, however it is grouped, less than 17 KiB, and a step less than 4 KiB. The others take less than 9 KiB for a query of one level,
- * gz_quick_page less than 13 KiB, and all less than 4 KiB for each further level of its nesting (section 3); there are 64 levels at most,
- * so that no call takes 265 KiB. Every call that is told a party keeps the seen tree on its stack, 1 KiB of these.
+ * of 256 nodes in bits, 8 KiB, take less than the 64 KiB of one in bytes; the worst shape that was measured takes 54,160 bytes, a run of
+ * steps, however it is grouped, less than 18 KiB, and a step less than 6 KiB. gz_pairs takes 8 KiB more, less than 64 KiB for every query. The
+ * others take less than 70 KiB for every query in which intersects, excepts, stars and sames nest (gz_forwards says when), and for the others
+ * by their levels (section 3): of one level gz_forwards and gz_backwards take less than 9 KiB, gz_quick_page 13 and gz_page 14, and all less
+ * than 4 KiB for each further level; there are 64 levels at most, so that no call takes 266 KiB. Every call that is told a party keeps
+ * the seen tree on its stack, 1 KiB of these.
  *
  * Everything is counted from 0. Numbers of tables are in the machine's own byte order.
  *
@@ -192,9 +194,15 @@
  *             printf("bay %u, pallet %u\n", rows[2 * i], rows[2 * i + 1]);
  *     } while (page.more);
  *
- * gz_page tries one row after the other, an evaluation of the query for each. gz_quick_page finds a row variable by variable: it gives a
- * variable one node after the other, while the variables behind it stand for any node, and one evaluation tells whether an answer begins
- * so. That is exact for the queries that keep this rule, and it refuses the others (29), which gz_page takes:
+ * gz_page tries one row after the other, an evaluation of the query for each; what no variable decides, at the query's ends, is evaluated
+ * once a call. Where a row is no answer, and all of its numbers from some variable on are 0, it begins a block, of the rows that have the same
+ * numbers before that variable. One evaluation, with the later variables standing for any node, then tells whether the block may be left
+ * out; it is made where no later variable stands under a not or right of an except. So a query that holds nowhere is told after two
+ * evaluations, whatever its variables, if none of them stands there.
+ *
+ * gz_quick_page finds a row variable by variable: it gives a variable one node after the other, while the variables behind it stand for any
+ * node, and one evaluation tells whether an answer begins so. That is exact for the queries that keep this rule, and it refuses the others
+ * (29), which gz_page takes:
  *
  *     no variable stands in both operands of a compose, of a filter, or of an and;
  *     no variable stands under an intersect, an except, a not, a star of a path, or a same.
@@ -467,10 +475,10 @@ gz_reply gz_check_query(const uint16_t *query, size_t query_len, uint16_t column
    8 to 20.
    Accepted, the first n bytes of `to` are the image, all later bytes are as they were, and count is the number of nodes in the
    image, 0 to n; refused, all of `to` is as it was.
-   A query without intersect, except, same and stars of paths takes time in proportion to its entries times n, however it nests;
-   intersect, except and same evaluate their operands once for each start node, and a star evaluates its operand until no new node is
-   reached, at most n times; where one of the four stands inside an operand of another, behind a composition or in a filter, each such
-   one takes up to n times as long. */
+   A query without intersect, except, same and stars of paths takes time in proportion to its entries times n, however it nests. A lone
+   intersect or except evaluates its operands once for each start node, and a lone star evaluates its operand until no new node is reached,
+   at most n times. Where one of the four stands inside an operand of another, however far, or there is a same, all pairs of the query are
+   made as by gz_pairs_bits, and the image is read from them: each entry is then evaluated once. */
 gz_image_reply gz_forwards(const uint16_t *tree, size_t tree_len, uint16_t party, const uint16_t *query, size_t query_len,
                            uint16_t columns, const uint16_t *nodes, size_t nodes_len, const uint8_t *from, size_t from_len, uint8_t *to,
                            size_t to_len);
@@ -482,7 +490,7 @@ gz_image_reply gz_backwards(const uint16_t *tree, size_t tree_len, uint16_t part
 
 /* All pairs of the query, under the assignment `nodes`: the relation table. table_len is n * n or more. Refusals 5 to 7, 30, 31, 8 to 17
    and 20. Accepted, the first n * n bytes of `table` are the relation, the pair (x, y) at x * n + y, and all later bytes are as
-   they were; refused, all of `table` is. One evaluation for each of the n start nodes. */
+   they were; refused, all of `table` is. The pairs are made as by gz_pairs_bits, and written out in a pass over the bytes. */
 gz_reply gz_pairs(const uint16_t *tree, size_t tree_len, uint16_t party, const uint16_t *query, size_t query_len, uint16_t columns,
                   const uint16_t *nodes, size_t nodes_len, uint8_t *table, size_t table_len);
 
@@ -509,7 +517,7 @@ gz_reply gz_unpack(uint16_t n, const uint64_t *words, size_t words_len, uint8_t 
    many as there are and as there is whole room for; all later numbers are as they were. more is true exactly if there is an
    answer after them. The cursor is at the last row written, with begun 1, its numbers at or above columns as they were; where
    count is 0 all of it is as it was, begun too. Refused, the cursor and all of `rows` are as they were.
-   One evaluation for each row tried, at most n to the power of columns. */
+   One evaluation for each row tried, at most n to the power of columns, and one for each block of section 5, which are fewer. */
 gz_page_reply gz_page(const uint16_t *tree, size_t tree_len, uint16_t party, const uint16_t *query, size_t query_len, uint16_t columns,
                       gz_cursor *cursor, uint16_t *rows, size_t rows_len);
 

@@ -815,6 +815,106 @@ static void large_stars(void)
         }
 }
 
+/* A query that nests intersects, excepts, stars and sames: a piece over the path below it, as often as there is room for in 64 entries.
+   Operands count as in the piece: 0 is the path below, and the piece's own entries count on from there. */
+struct piece {
+    const char *what;
+    size_t count;
+    uint16_t entries[5][4];
+};
+static const struct piece pieces[] = {
+    {"Q <- (.//./Q) intersect .//.", 4, {{BELOW}, {TWO(1, 1, 0)}, {BELOW}, {TWO(3, 2, 3)}}},
+    {"Q <- .//.[Q] intersect .//.", 5, {{ONE(8, 0)}, {BELOW}, {TWO(5, 2, 1)}, {BELOW}, {TWO(3, 3, 4)}}},
+    {"Q <- (child::*[Q])*", 4, {{ONE(8, 0)}, {STEP(1, STAR)}, {TWO(5, 2, 1)}, {ONE(13, 3)}}},
+    {"Q <- (.//./Q) except child::*", 4, {{BELOW}, {TWO(1, 1, 0)}, {STEP(1, STAR)}, {TWO(4, 2, 3)}}},
+    {"Q <- .[Q same .]", 4, {{SELF}, {TWO(14, 0, 1)}, {SELF}, {TWO(5, 3, 2)}}},
+    {"Q <- (Q)*", 1, {{ONE(13, 0)}}},
+    {"Q <- .//. except (.//. except Q)", 4, {{BELOW}, {TWO(4, 1, 0)}, {BELOW}, {TWO(4, 3, 2)}}},
+    {"Q <- child::*[Q/self::*]", 5, {{STEP(0, STAR)}, {TWO(1, 0, 1)}, {ONE(8, 2)}, {STEP(1, STAR)}, {TWO(5, 4, 3)}}}};
+enum { BELOW_ALL, BELOW_TESTED, STAR_OF_FILTER, BUT_CHILDREN, SAME_AS_SELF, STARS, TWICE_EXCEPT, FILTERED };
+
+/* Some pieces in turn over .//., as many turns as are asked for and there is room for; answers how many entries there are. */
+static size_t stacked(uint16_t *query, const uint8_t *order, size_t order_len, size_t turns)
+{
+    size_t entries = 1;
+    memcpy(query, (const uint16_t[]){BELOW}, 8);
+    for (size_t turn = 0; turn < turns; turn++) {
+        const struct piece *p = &pieces[order[turn % order_len]];
+        uint16_t path = (uint16_t)(entries - 1);
+        for (size_t i = 0; entries + p->count - i <= 64 && i < p->count; i++) {
+            const uint16_t *e = p->entries[i];
+            bool left = e[0] != 0, right = (1 <= e[0] && e[0] <= 5) || e[0] == 14;
+            memcpy(query + 4 * entries++, (const uint16_t[]){e[0], e[1] + left * path, e[2] + right * path, e[3]}, 8);
+        }
+    }
+    return entries;
+}
+
+/* Both images of each node alone, of a large tree of every 51st, of all nodes and of every third are read off the pairs that are due, which
+   stand in cells_lent. */
+static void large_images(const char *what, struct lent l)
+{
+    size_t n = l.n;
+    for (size_t set = 0; set < n + 2; set += n < 100 || set >= n - 1 ? 1 : 51) {
+        uint8_t from[256], memory[MARGIN + 256 + MARGIN], wanted[2][sizeof memory];
+        size_t count[2] = {0, 0};
+        memset(wanted, PATTERN, sizeof wanted);
+        memset(wanted[0] + MARGIN, 0, n);
+        memset(wanted[1] + MARGIN, 0, n);
+        for (size_t x = 0; x < n; x++)
+            from[x] = set < n ? x == set : set == n || x % 3 == 1;
+        for (size_t x = 0; x < n; x++)
+            for (size_t y = 0; y < n; y++)
+                if (cells_lent[x * n + y]) {
+                    wanted[0][MARGIN + y] |= from[x];
+                    wanted[1][MARGIN + x] |= from[y];
+                }
+        for (size_t back = 0; back < 2; back++) {
+            const struct direction *d = back ? &backwards : &forwards;
+            for (size_t x = 0; x < n; x++)
+                count[back] += wanted[back][MARGIN + x];
+            memset(memory, PATTERN, sizeof memory);
+            gz_image_reply r = d->function(SHARED(l.tree), l.query, l.query_len, 0, NULL, 0, from, n, memory + MARGIN, 256);
+            expect(r.number == 0 && r.place == 0 && r.count == count[back], d->name, what, "reply");
+            expect(memcmp(memory, wanted[back], sizeof memory) == 0, d->name, what, "buffer");
+        }
+    }
+}
+
+/* Nested queries of every depth up to 64 entries over a chain, by all four services. Of the pieces over .//. it is told which pairs come out;
+   of mixtures, the images are held against the pairs in bits. Evaluated one start node after the other, the deep ones would take years. */
+static void nested_queries(void)
+{
+    static const uint8_t single[][1] = {{BELOW_ALL}, {BELOW_TESTED}, {STAR_OF_FILTER}, {BUT_CHILDREN}, {SAME_AS_SELF}, {STARS}, {TWICE_EXCEPT}};
+    static const uint8_t mixed[][4] = {{BELOW_ALL, STAR_OF_FILTER, BUT_CHILDREN, FILTERED},
+                                       {FILTERED, TWICE_EXCEPT, BELOW_TESTED, STARS},
+                                       {BUT_CHILDREN, SAME_AS_SELF, STAR_OF_FILTER, BELOW_ALL}};
+    static const size_t sizes[] = {1, 2, 6, 65, 256}, depths[] = {1, 2, 4, 8, 15, 64};
+    uint16_t query[256];
+    fill_chain();
+    for (size_t i = 0; i < LENGTH(sizes); i++)
+        for (size_t d = 0; d < LENGTH(depths); d++) {
+            size_t n = sizes[i];
+            for (size_t q = 0; q < LENGTH(single); q++) {
+                struct lent l = ON(chain, 2 * n, query, 4 * stacked(query, single[q], 1, depths[d]), 0, NOTHING);
+                for (size_t x = 0; x < n; x++)
+                    for (size_t y = 0; y < n; y++)
+                        cells_lent[x * n + y] = q == SAME_AS_SELF ? x == y : x <= y && (q != BUT_CHILDREN || y - x != 1);
+                large_relation(pieces[q].what, l);
+                large_images(pieces[q].what, l);
+            }
+            for (size_t q = 0; q < LENGTH(mixed); q++) {
+                struct lent l = ON(chain, 2 * n, query, 4 * stacked(query, mixed[q], 4, depths[d]), 0, NOTHING);
+                gz_pairs_bits(SHARED(l.tree), l.query, l.query_len, 0, NULL, 0, words_lent, 1024);
+                for (size_t x = 0; x < n; x++)
+                    for (size_t y = 0; y < n; y++)
+                        cells_lent[x * n + y] = words_lent[4 * x + y / 64] >> y % 64 & 1;
+                large_relation("a mixture", l);
+                large_images("a mixture", l);
+            }
+        }
+}
+
 /* Pages. The cursor is moved on from call to call. */
 
 /* A page call, or a quick one; of the former, evaluations is 0. */
@@ -1250,6 +1350,129 @@ static void dear_searches(void)
         cursor = fresh;
         quick("from a fresh cursor", l, &cursor, 6, COUNTED(tag, false, tag ? 769 : 1), row, numbers, tag ? last : fresh);
     }
+}
+
+/* Pages of queries in any shape, where whole blocks of rows are left out. */
+
+/* The answers by trying every row: those under which the forward image of all nodes has a node. */
+static size_t tried_rows(struct lent l)
+{
+    uint8_t from[256], to[256];
+    uint16_t row[3] = {0, 0, 0};
+    size_t n = l.n, k = l.columns, answers = 0, rows = k == 1 ? n : k == 2 ? n * n : n * n * n;
+    memset(from, 1, n);
+    for (size_t at = 0; at < rows; at++) {
+        for (size_t j = k, rest = at; j-- > 0; rest /= n)
+            row[j] = (uint16_t)(rest % n);
+        if (gz_forwards(SHARED(l.tree), l.query, l.query_len, l.columns, row, k, from, n, to, n).count != 0)
+            memcpy(every_row + k * answers++, row, k * sizeof *row);
+    }
+    return answers;
+}
+
+/* A page after a cursor, or from the first answer on, holds the next of these. */
+static void page_due(const char *what, struct lent l, size_t answers, gz_cursor cursor, size_t room)
+{
+    static uint16_t memory[MARGIN + 3 * MOST_ROWS + MARGIN], wanted[LENGTH(memory)];
+    size_t k = l.columns, first = 0;
+    gz_cursor after = cursor;
+    for (; cursor.begun && first < answers; first++) {
+        size_t j = 0;
+        while (j < k && every_row[k * first + j] == cursor.last[j])
+            j++;
+        if (j < k && every_row[k * first + j] > cursor.last[j])
+            break;
+    }
+    size_t count = answers - first < room / k ? answers - first : room / k;
+    memset(memory, PATTERN, sizeof memory);
+    memset(wanted, PATTERN, sizeof wanted);
+    memcpy(wanted + MARGIN, every_row + k * first, k * count * sizeof *wanted);
+    if (count != 0) {
+        after.begun = 1;
+        memcpy(after.last, every_row + k * (first + count - 1), k * sizeof *after.last);
+    }
+    gz_page_reply r = gz_page(SHARED(l.tree), l.query, l.query_len, l.columns, &cursor, memory + MARGIN, room);
+    expect(r.number == 0 && r.place == 0 && r.count == count && r.more == (first + count < answers), "gz_page", what, "reply");
+    expect(memcmp(memory, wanted, sizeof memory) == 0, "gz_page", what, "buffer");
+    expect(same_cursor(cursor, after), "gz_page", what, "cursor");
+}
+
+/* The same from every cursor, fresh and at each row, with room for one row, for two and a part of one, and for all; with as many variables
+   as the query has, and with those more that play no part. */
+static void pages_due(const char *what, const uint16_t *query, size_t length, uint16_t columns)
+{
+    for (; columns <= 3; columns++) {
+        struct lent l = LENT(query, length, columns, NOTHING);
+        size_t n = l.n, k = columns, answers = tried_rows(l), rows = k == 1 ? n : k == 2 ? n * n : n * n * n;
+        size_t rooms[] = {k, 3 * k - 1, 3 * MOST_ROWS};
+        for (size_t i = 0; i < LENGTH(rooms); i++) {
+            page_due(what, l, answers, CURSOR(0, 900, 900, 900), rooms[i]);
+            for (size_t row = 0; row < rows; row++) {
+                gz_cursor cursor = AT(900, 900, 900);
+                for (size_t j = k, rest = row; j-- > 0; rest /= n)
+                    cursor.last[j] = (uint16_t)(rest % n);
+                page_due(what, l, answers, cursor, rooms[i]);
+            }
+        }
+    }
+}
+
+/* Variables at places of every sort: none, under not, right of except, in intersect, star and same, shared; before, between and behind what no
+   variable decides. */
+static void blocks(void)
+{
+    pages_due("self::9", NUMBERS(STEP(0, 9)), 1);
+    pages_due("self::2", NUMBERS(STEP(0, 2)), 1);
+    pages_due("/child::2/child::3", NUMBERS(STEP(1, 2), STEP(1, 3), TWO(1, 0, 1), ONE(7, 2)), 1);
+    pages_due("$0 intersect self::2", NUMBERS(ONE(6, 0), STEP(0, 2), TWO(3, 0, 1)), 1);
+    pages_due("self::2[not(. is $0)]", NUMBERS(STEP(0, 2), ONE(12, 0), ONE(9, 1), TWO(5, 0, 2)), 1);
+    pages_due("self::1[not(. is $0)]", NUMBERS(STEP(0, 1), ONE(12, 0), ONE(9, 1), TWO(5, 0, 2)), 1);
+    pages_due(".[. is $1][not(. is $0)]", NUMBERS(SELF, ONE(12, 1), TWO(5, 0, 1), ONE(12, 0), ONE(9, 3), TWO(5, 2, 4)), 2);
+    pages_due(".[. is $0][not(. is $1)]", NUMBERS(SELF, ONE(12, 0), TWO(5, 0, 1), ONE(12, 1), ONE(9, 3), TWO(5, 2, 4)), 2);
+    pages_due("child::3[. is $0][not(. is $2)]", NUMBERS(STEP(1, 3), ONE(12, 0), TWO(5, 0, 1), ONE(12, 2), ONE(9, 3), TWO(5, 2, 4)), 3);
+    pages_due("child::3[. is $2][not(. is $0)]", NUMBERS(STEP(1, 3), ONE(12, 2), TWO(5, 0, 1), ONE(12, 0), ONE(9, 3), TWO(5, 2, 4)), 3);
+    pages_due("child::3[. is $1] except $0", NUMBERS(STEP(1, 3), ONE(12, 1), TWO(5, 0, 1), ONE(6, 0), TWO(4, 2, 3)), 2);
+    pages_due("child::3[. is $0] except $1", NUMBERS(STEP(1, 3), ONE(12, 0), TWO(5, 0, 1), ONE(6, 1), TWO(4, 2, 3)), 2);
+    pages_due("$0 except self::node()", NUMBERS(ONE(6, 0), SELF, TWO(4, 0, 1)), 1);
+    pages_due("descendant::2[. is $0]/child::3 intersect $1",
+              NUMBERS(STEP(5, 2), ONE(12, 0), TWO(5, 0, 1), STEP(1, 3), TWO(1, 2, 3), ONE(6, 1), TWO(3, 4, 5)), 2);
+    pages_due("descendant::2[. is $0]/child::3 intersect $2",
+              NUMBERS(STEP(5, 2), ONE(12, 0), TWO(5, 0, 1), STEP(1, 3), TWO(1, 2, 3), ONE(6, 2), TWO(3, 4, 5)), 3);
+    pages_due("child::2[. is $0]/child::3[. is $1] intersect $2/right::*",
+              NUMBERS(STEP(1, 2), ONE(12, 0), TWO(5, 0, 1), STEP(1, 3), ONE(12, 1), TWO(5, 3, 4), TWO(1, 2, 5), ONE(6, 2), STEP(3, STAR),
+                      TWO(1, 7, 8), TWO(3, 6, 9)), 3);
+    pages_due("not of a not of $0", NUMBERS(STEP(0, 3), ONE(12, 0), ONE(9, 1), ONE(9, 2), TWO(5, 0, 3)), 1);
+    pages_due(".[. is $0]/self::2[. is $0]", NUMBERS(SELF, ONE(12, 0), TWO(5, 0, 1), STEP(0, 2), ONE(12, 0), TWO(5, 3, 4), TWO(1, 2, 5)), 1);
+    pages_due("a variable under a star", SLICE(under_star), 1);
+    pages_due("a variable under a same", SLICE(under_same), 2);
+    pages_due("the bays with their pallets", SLICE(pallets), 2);
+    pages_due("child::2/child::3[. is $0]/following::*", NUMBERS(STEP(1, 2), STEP(1, 3), ONE(12, 0), TWO(5, 1, 2), TWO(1, 0, 3), STEP(7, STAR),
+                                                                 TWO(1, 4, 5)), 1);
+    pages_due("/child::2[. is $0][not(right::*)]/child::3",
+              NUMBERS(STEP(1, 2), ONE(12, 0), TWO(5, 0, 1), STEP(3, STAR), ONE(8, 3), ONE(9, 4), TWO(5, 2, 5), STEP(1, 3), TWO(1, 6, 7),
+                      ONE(7, 8)), 1);
+    pages_due("self::9/.[. is $0]", NUMBERS(STEP(0, 9), SELF, ONE(12, 0), TWO(5, 1, 2), TWO(1, 0, 3)), 1);
+    pages_due("/(child::*[/child::2[. is $1]])[child::3]", NUMBERS(STEP(1, STAR), STEP(1, 2), ONE(12, 1), TWO(5, 1, 2), ONE(7, 3), ONE(8, 4),
+                                                                   TWO(5, 0, 5), STEP(1, 3), ONE(8, 7), TWO(5, 6, 8), ONE(7, 9)), 2);
+    pages_due("child::2[child::3 same child::3/..[. is $0]/child::*]",
+              NUMBERS(STEP(1, 2), STEP(1, 3), STEP(1, 3), PARENT, ONE(12, 0), TWO(5, 3, 4), TWO(1, 2, 5), STEP(1, STAR), TWO(1, 6, 7),
+                      TWO(14, 1, 8), TWO(5, 0, 9)), 1);
+}
+
+/* As large as a tree may be: a query that holds nowhere, and the pallets with their places as an intersect, which no quick page takes. Row by row
+   each would take 16,777,216 evaluations. */
+static void large_blocks(void)
+{
+    static const uint16_t query[] = {STEP(1, 2), ONE(12, 0), TWO(5, 0, 1), STEP(1, 3), ONE(12, 1), TWO(5, 3, 4), TWO(1, 2, 5),
+                                     STEP(1, 4), TWO(1, 6, 7), ONE(6, 2), TWO(3, 8, 9)};
+    uint16_t rows[3 * 256];
+    gz_cursor cursor = {0};
+    gz_page_reply r = gz_page(SHARED(ON(SLICE(hall), NUMBERS(STEP(0, 9)), 3, NOTHING).tree), NUMBERS(STEP(0, 9)), 3, &cursor, rows, LENGTH(rows));
+    expect(r.number == 0 && r.count == 0 && !r.more && !cursor.begun, "gz_page", "self::9 with three variables", "reply");
+    struct lent l = ON(SLICE(hall), SLICE(query), 3, NOTHING);
+    r = gz_page(SHARED(l.tree), l.query, l.query_len, 3, &cursor, rows, LENGTH(rows));
+    expect(r.number == 0 && r.count == 225 && !r.more, "gz_page", "an intersect with three variables", "reply");
+    expect(memcmp(rows, hall_rows, sizeof hall_rows) == 0, "gz_page", "an intersect with three variables", "rows");
 }
 
 /* Names. */
@@ -2572,6 +2795,7 @@ int main(void)
     conversions();
     both_forms();
     large_stars();
+    nested_queries();
     pages();
     quick_pages();
     broken_rules();
@@ -2582,6 +2806,8 @@ int main(void)
     places(225);
     places(256);
     dear_searches();
+    blocks();
+    large_blocks();
     names();
     typed();
     rules();

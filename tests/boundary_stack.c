@@ -1,7 +1,8 @@
 /* The stack that a call takes is as include/geznauri.h has it: less than 1 KiB for a check and a name, less than 4 KiB where a seen tree
    is made, a typed query is read, an index is made or followed, or a relation turned from bytes to bits or back, less than 9 KiB for a
-   query of one level, and less than 4 KiB for each further level of nesting; a quick page takes less than 13 KiB for one level, and 4 KiB
-   for each further one. Pairs in bits take so little for every query that stack and table together are smaller than a table of bytes.
+   query of one level, and less than 4 KiB for each further level of nesting; a page takes less than 14 KiB for one level, a quick one less
+   than 13, and 4 KiB for each further one. Pairs in bits take so little for every query that stack and table together are smaller than a
+   table of bytes; pairs in bytes take less than 64 KiB for every query, and all else that is asked of a query that nests less than 70.
    Calls run on a stack that was filled with a pattern; how much of the pattern is gone, less what a thread takes that calls nothing, is
    what the call took. The tree of queries has one node, and of quick pages two: frames are of one size for all trees; for pairs in bits it has
    256, as has what is turned. */
@@ -13,6 +14,8 @@
 #include <string.h>
 
 #define PATTERN 0xA5
+#define NESTING (70 * 1024) /* for a query that nests */
+#define WRITTEN (64 * 1024) /* for pairs in bytes of every query */
 #define SIZE ((size_t)1 << 20)
 
 static const uint16_t tree[] = {65535, 1, 0};
@@ -48,21 +51,26 @@ static void *checks(void *unused)
     return unused;
 }
 
-static void *evaluations(void *unused)
+static void *images(void *unused)
 {
     uint8_t from[1] = {1}, to[1];
-    uint16_t nodes[1] = {0}, rows[1];
-    gz_cursor cursor = {0};
+    uint16_t nodes[1] = {0};
     accepted(gz_forwards(tree, 3, 1, query, 4 * entries, 1, nodes, 1, from, 1, to, 1).number);
     accepted(gz_backwards(tree, 3, 1, query, 4 * entries, 1, nodes, 1, from, 1, to, 1).number);
-    accepted(gz_pairs(tree, 3, 1, query, 4 * entries, 1, nodes, 1, to, 1).number);
-    accepted(gz_page(tree, 3, 1, query, 4 * entries, 1, &cursor, rows, 1).number);
     return unused;
 }
 
-/* A quick page of three variables. With two nodes, and room for the eight rows that there can be, each variable is filled and then sought
-   again, while those behind it stand for any node. */
+/* Pages of three variables, plain and quick. With two nodes, and room for the eight rows that there can be, each variable is filled and then
+   sought again, while those behind it stand for any node. */
 static const uint16_t two[] = {65535, 1, 0, 0, 1, 1};
+
+static void *pages(void *unused)
+{
+    static uint16_t rows[24];
+    gz_cursor cursor = {0};
+    accepted(gz_page(two, 6, 1, query, 4 * entries, 3, &cursor, rows, 24).number);
+    return unused;
+}
 
 static void *quick(void *unused)
 {
@@ -81,6 +89,13 @@ static void *bits(void *unused)
 {
     uint16_t nodes[1] = {0};
     accepted(gz_pairs_bits(large, 768, 1, query, 4 * entries, 1, nodes, 1, words, 1024).number);
+    return unused;
+}
+
+static void *in_bytes(void *unused)
+{
+    uint16_t nodes[1] = {0};
+    accepted(gz_pairs(large, 768, 1, query, 4 * entries, 1, nodes, 1, cells, 65536).number);
     return unused;
 }
 
@@ -166,44 +181,70 @@ static size_t levels(size_t e)
     return 1 + (a < b ? b : a);
 }
 
+/* How deep the kinds 3, 4 and 13 nest, by the header's words; kind 14 counts double. A query nests that is two deep. */
+static size_t depth(size_t e)
+{
+    const uint16_t *f = query + 4 * e;
+    bool left = f[0] != 0 && f[0] != 6 && f[0] != 12, right = (1 <= f[0] && f[0] <= 5) || f[0] == 10 || f[0] == 11 || f[0] == 14;
+    size_t a = left ? depth(f[1]) : 0, b = right ? depth(f[2]) : 0;
+    return (f[0] == 3 || f[0] == 4 || f[0] == 13 ? 1 : f[0] == 14 ? 2 : 0) + (a < b ? b : a);
+}
+
+/* What a call may take for a query that nests, and else for its levels; `one` KiB for the first. */
+static size_t limit(size_t levels, size_t one)
+{
+    return depth(entries - 1) >= 2 ? NESTING : one * 1024 + (levels - 1) * 4096;
+}
+
 /* A quick page makes a table in which a variable that stands for any node has one level more. */
-static size_t most_quick;
+static size_t most_quick, most_page, most_one_page, most_nesting;
 
 static void quick_at_most(const char *what, size_t expected)
 {
-    size_t took = taken(quick) - taken(nothing);
-    printf("%s, %zu levels: %zu bytes for a quick page\n", what, expected, took);
-    most(&most_quick, took);
-    if (levels(entries - 1) != expected || took >= 13 * 1024 + (expected - 1) * 4096)
+    size_t took = taken(quick) - taken(nothing), paged = taken(pages) - taken(nothing);
+    printf("%s, %zu levels: %zu bytes for a quick page, %zu for a page\n", what, expected, took, paged);
+    most(depth(entries - 1) >= 2 ? &most_nesting : &most_quick, took);
+    most(depth(entries - 1) >= 2 ? &most_nesting : &most_page, paged);
+    if (expected == 1)
+        most(&most_one_page, paged);
+    if (levels(entries - 1) != expected || took >= limit(expected, 13) || paged >= limit(expected, 14))
         wrong = 1;
 }
 
-/* The most that an evaluation took: in all, for one level, and for each level beyond that. */
+/* The most that an image by a query that does not nest took: in all, for one level, and for each level beyond that. */
 static size_t most_taken, most_one, most_level;
 
 static void at_most(const char *what, size_t expected)
 {
-    size_t took = taken(evaluations) - taken(nothing), checked = taken(checks) - taken(nothing);
+    size_t took = taken(images) - taken(nothing), checked = taken(checks) - taken(nothing);
     printf("%s, %zu levels: %zu bytes, and %zu for the checks\n", what, expected, took, checked);
-    most(&most_taken, took);
+    if (depth(entries - 1) >= 2)
+        most(&most_nesting, took);
+    else
+        most(&most_taken, took);
     if (expected == 1)
         most(&most_one, took);
-    else if (took > most_one)
+    else if (took > most_one && depth(entries - 1) < 2)
         most(&most_level, (took - most_one) / (expected - 1));
-    if (levels(entries - 1) != expected || took >= 9 * 1024 + (expected - 1) * 4096 || checked >= 1024)
+    if (levels(entries - 1) != expected || took >= limit(expected, 9) || checked >= 1024)
         wrong = 1;
     quick_at_most(what, expected);
 }
 
-/* The most that pairs in bits took. With the caller's table, which is lent, it stays below the table of bytes. */
-static size_t most_bits;
+/* The most that pairs in bits took, and in bytes. With the caller's table, which is lent, the former stays below the table of bytes. Of a
+   query that nests the images and pages are measured too. */
+static size_t most_bits, most_bytes;
 
 static size_t in_bits(const char *what)
 {
-    size_t took = taken(bits) - taken(nothing);
-    printf("%s, %zu entries, in bits: %zu bytes\n", what, entries, took);
+    size_t took = taken(bits) - taken(nothing), written = taken(in_bytes) - taken(nothing);
+    size_t nesting = depth(entries - 1) >= 2 ? taken(images) - taken(nothing) : 0, paged = nesting ? taken(pages) - taken(nothing) : 0;
+    printf("%s, %zu entries, in bits: %zu bytes, %zu in bytes; nesting: %zu and %zu for a page\n", what, entries, took, written, nesting, paged);
     most(&most_bits, took);
-    if (took + sizeof words >= sizeof cells)
+    most(&most_bytes, written);
+    most(&most_nesting, nesting);
+    most(&most_nesting, paged);
+    if (took + sizeof words >= sizeof cells || written >= WRITTEN || nesting >= NESTING || paged >= NESTING)
         wrong = 1;
     return took;
 }
@@ -350,7 +391,7 @@ static void shapes_in_bits(void)
             }
             printf("%s: ", names[kind - 1]);
             size_t took = in_bits(side ? "rightwards" : "leftwards");
-            if (kind == 1 && took >= 17 * 1024)
+            if (kind == 1 && took >= 18 * 1024)
                 wrong = 1;
         }
         /* a filter at every join, with the joins before it inside: each filter holds a path of two operands */
@@ -464,9 +505,9 @@ static void shapes_in_bits(void)
                     in_bits(deepest_name(i));
                 }
     steps(1);
-    if (in_bits("one step") >= 4096)
+    if (in_bits("one step") >= 6144)
         wrong = 1;
-    printf("in bits at most %zu bytes\n", most_bits);
+    printf("in bits at most %zu bytes, in bytes %zu\n", most_bits, most_bytes);
 }
 
 /* Quick pages of the deepest queries that have the last variable at their end, as a path and as `. is` it: from the root, in filters in
@@ -526,7 +567,7 @@ static void shapes_with_variables(void)
             printf("a variable beside ");
             quick_at_most(pieces[i].name, 2 + added);
         }
-    printf("quick pages at most %zu bytes\n", most_quick);
+    printf("quick pages at most %zu bytes, pages %zu, and %zu for one level\n", most_quick, most_page, most_one_page);
 }
 
 int main(void)
@@ -586,6 +627,7 @@ int main(void)
         at_most(pieces[i].name, 1 + deepen(&pieces[i], 64));
     }
     shapes_with_variables();
-    printf("at most %zu bytes, %zu for one level and %zu for each beyond it\n", most_taken, most_one, most_level);
+    printf("at most %zu bytes, %zu for one level and %zu for each beyond it; %zu for queries that nest\n", most_taken, most_one, most_level,
+           most_nesting);
     return wrong;
 }

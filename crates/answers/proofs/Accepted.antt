@@ -14,18 +14,19 @@ use Rattle.model.specs.Tree.{treeOf, sizeOf}
 use Rattle.model.specs.QueryTable.{entriesOf}
 use Rattle.model.specs.Refusals.{verdict, reply}
 use Rattle.model.specs.Checks.{badNode, treeChecks, queryChecks, cursorChecks, roomChecks, pageChecks, quickChecks}
-use Rattle.model.specs.Accepted.{Ordered, Below}
+use Rattle.model.specs.Accepted.{Ordered, Below, Shaped}
 use Rattle.model.specs.Answers.{answers}
 use Rattle.model.specs.Pages.{rowOf, hasBegun, paged}
 use Rattle.model.proofs.Exists.{none-of}
 use Rattle.model.proofs.Refusals.{Passes, Passes-front}
 use Rattle.model.proofs.Quick.{quick-accepts}
-use Rattle.model.proofs.Accepted.{tree-ordered, tree-numbered, query-numbered, columns-most, columns-least, entries-some, last-path, query-evaluable}
+use Rattle.model.proofs.Accepted.{tree-ordered, tree-numbered, query-numbered, columns-most, columns-least, entries-some, last-path, query-shaped, query-evaluable}
+use Rattle.aside.proofs.Accepted.{accepted-five}
 use Rattle.checks.proofs.Verdicts.{zero-of, cursor-numbered}
 use Rattle.tree.specs.Links.{PreviousSiblings}
 use Rattle.answers.specs.declared.Paged.{Paged}
 use Rattle.model.specs.Services.{pageOutcome, PageLeaves}
-use Rattle.answers.specs.Search.{Searchable, refusedPage}
+use Rattle.answers.specs.Search.{Listed, refusedPage}
 
 -- An accepted call.
 
@@ -51,15 +52,21 @@ module _ (t q : List ℕ) (columns : ℕ) (c : Cursor) (room : ℕ) (v : Reply) 
       ltb-true (getD (rowOf columns c) i 0) (sizeOf t)
       (not-false (ltb (getD (rowOf columns c) i 0) (sizeOf t)) (none-of columns (badNode t (rowOf columns c)) i (rw b at (passes .1 .1 .0)) few))
 
-  pub page-searchable : (prev : List ℕ) → PreviousSiblings (treeOf t) (sizeOf t) prev → Searchable t prev q columns
-  page-searchable prev linked =
+  pub page-listed : (prev : List ℕ) → PreviousSiblings (treeOf t) (sizeOf t) prev → Listed t prev q columns
+  page-listed prev linked =
       let some : 0 < entriesOf q = entries-some q 1 columns (passes .1 .0) in
+      let shaped : Shaped q = query-shaped q 1 columns (passes .1 .0) in
       record {
-        linked = record { tree = page-tree; siblings = linked };
-        path = record { within = omega arith; sort = last-path q 1 columns (passes .1 .0) };
-        least = columns-least q 1 columns (passes .1 .0);
-        most = page-few;
-        query = query-evaluable q 1 columns (passes .1 .0) t;
+        searchable = record {
+          linked = record { tree = page-tree; siblings = linked };
+          path = record { within = omega arith; sort = last-path q 1 columns (passes .1 .0) };
+          least = columns-least q 1 columns (passes .1 .0);
+          most = page-few;
+          query = query-evaluable q 1 columns (passes .1 .0) t;
+          few = omega (arith, shaped .few);
+          five = accepted-five q 1 columns (passes .1 .0);
+        };
+        shaped = shaped;
       }
 
 -- of an accepted quick call

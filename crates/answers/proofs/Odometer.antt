@@ -7,12 +7,13 @@ use native.Mathlib.Omega.{arith}
 use mathlib.Core.Path.{_≡_, refl, sym, ap, ap₂, _∙_, subst}
 use mathlib.Core.Logic.{_⊎_}
 use mathlib.Core.Bool.{Bool, true, false}
-use mathlib.Core.List.{List, [], _∷_, _++_, map, append-nil}
-use lib.ListN.{length, take, drop, getD, set, replicate, drop-of-length-le, length-drop, length-set, length-replicate, take-append-drop, List·getD-append}
-use lib.Seq.{length-take-le, take-take, take-suc, drop-cons, getD-take, take-set-lt, set-at, append-snoc}
+use mathlib.Core.List.{List, [], _∷_, _++_, map}
+use lib.ListN.{length, take, drop, getD, set, replicate, drop-of-length-le, length-drop, length-set, length-replicate, getD-replicate, take-append-drop, List·getD-append}
+use lib.Seq.{length-take-le, take-take, take-suc, drop-cons, getD-take, getD-drop, ext-getD, take-set-lt, set-at, append-snoc}
 use Rattle.model.specs.Answers.{Row, less, blocks, allRows, consIf, keep}
 use Rattle.model.specs.Accepted.{Below}
 use Rattle.model.proofs.Answers.{In, below-rest, less-later, less-not, before-blocks}
+use Rattle.answers.specs.Search.{Heads}
 
 -- What stands after a row, among rows that begin with m numbers from b on.
 
@@ -74,135 +75,158 @@ zeros-first n (suc k) h =
     ∙ ap (λ (z : List Row). map (λ s. 0 ∷ s) z ++ blocks (n - 1) 1 (allRows n k)) (zeros-first n k h)
     ∙ ap {B = List Row} (λ z. (0 ∷ replicate k 0) ∷ z) (sym (after-first n 0 (replicate k 0) (allRows n k) h))
 
--- s is the row after r; there is no row after r
-abbrev pub Follows : ℕ → Row → Row → Type 0
-Follows n r s = keep (less r) (allRows n (length r)) ≡ s ∷ keep (less s) (allRows n (length r))
+-- among all rows of m numbers s is the first after r, and after those that begin with r; there is none
+abbrev Follows : ℕ → ℕ → Row → Row → Type 0
+Follows n m r s = keep (less r) (allRows n m) ≡ s ∷ keep (less s) (allRows n m)
 
-abbrev pub Final : ℕ → Row → Type 0
-Final n r = keep (less r) (allRows n (length r)) ≡ []
+abbrev Final : ℕ → ℕ → Row → Type 0
+Final n m r = keep (less r) (allRows n m) ≡ []
+
+-- every row begins with no number
+all-begin : (n m : ℕ) → Final n m []
+all-begin n m = go (allRows n m)
+  where
+    go : (xs : List Row) → keep (less []) xs ≡ []
+    go [] = refl
+    go (x ∷ xs) = go xs
 
 -- where no row is after r, a row that begins with a and goes on as r is followed by one that begins with the next number
-counted-up : (n a : ℕ) (r : Row) → suc a < n → Final n r → Follows n (a ∷ r) (suc a ∷ replicate (length r) 0)
-counted-up n a r h f =
+counted-up : (n m a : ℕ) (r : Row) → suc a < n → Final n m r → Follows n (suc m) (a ∷ r) (suc a ∷ replicate m 0)
+counted-up n m a r h f =
     let e : n - suc a ≡ suc (n - suc (suc a)) = omega arith in
-    after-first n a r (allRows n (length r)) (omega arith)
-    ∙ ap₂ (λ (z : List Row) (m : ℕ). map (λ s. a ∷ s) z ++ blocks m (suc a) (allRows n (length r))) f e
-    ∙ ap (λ (z : List Row). map (λ s. suc a ∷ s) z ++ blocks (n - suc (suc a)) (suc (suc a)) (allRows n (length r))) (zeros-first n (length r) (omega arith))
-    ∙ ap {B = List Row} (λ z. (suc a ∷ replicate (length r) 0) ∷ z) (sym (after-first n (suc a) (replicate (length r) 0) (allRows n (length r)) h))
+    after-first n a r (allRows n m) (omega arith)
+    ∙ ap₂ (λ (z : List Row) (m₁ : ℕ). map (λ s. a ∷ s) z ++ blocks m₁ (suc a) (allRows n m)) f e
+    ∙ ap (λ (z : List Row). map (λ s. suc a ∷ s) z ++ blocks (n - suc (suc a)) (suc (suc a)) (allRows n m)) (zeros-first n m (omega arith))
+    ∙ ap {B = List Row} (λ z. (suc a ∷ replicate m 0) ∷ z) (sym (after-first n (suc a) (replicate m 0) (allRows n m) h))
 
 -- and by none where a is the last number
-counted-out : (n a : ℕ) (r : Row) → a < n → n ≤ suc a → Final n r → Final n (a ∷ r)
-counted-out n a r h l f =
+counted-out : (n m a : ℕ) (r : Row) → a < n → n ≤ suc a → Final n m r → Final n (suc m) (a ∷ r)
+counted-out n m a r h l f =
     let e : n - suc a ≡ 0 = omega arith in
-    after-first n a r (allRows n (length r)) h
-    ∙ ap₂ (λ (z : List Row) (m : ℕ). map (λ s. a ∷ s) z ++ blocks m (suc a) (allRows n (length r))) f e
+    after-first n a r (allRows n m) h
+    ∙ ap₂ (λ (z : List Row) (m₁ : ℕ). map (λ s. a ∷ s) z ++ blocks m₁ (suc a) (allRows n m)) f e
 
 -- what follows the end of a row decides what follows the row
-follows-behind : (n : ℕ) (p r s : Row) → Below n p → length s ≡ length r → Follows n r s → Follows n (p ++ r) (p ++ s)
-follows-behind n [] r s b l h = h
-follows-behind n (a ∷ p) r s b l h =
-    after-first n a (p ++ r) (allRows n (length (p ++ r))) (b 0 (omega arith))
-    ∙ ap (λ (z : List Row). map (λ s. a ∷ s) z ++ blocks (n - suc a) (suc a) (allRows n (length (p ++ r)))) (follows-behind n p r s (below-rest n a p b) l h)
-    ∙ ap {B = List Row} (λ z. (a ∷ (p ++ s)) ∷ z) (sym (after-first n a (p ++ s) (allRows n (length (p ++ r))) (b 0 (omega arith))))
+follows-behind : (n m k : ℕ) (p r s : Row) → m + length p ≡ k → Below n p → Follows n m r s → Follows n k (p ++ r) (p ++ s)
+follows-behind n m k [] r s e b h = subst (λ (z : ℕ). Follows n z r s) (let z : m ≡ k = omega arith in z) h
+follows-behind n m zero (a ∷ p) r s e b h = absurd (omega arith)
+follows-behind n m (suc k) (a ∷ p) r s e b h =
+    after-first n a (p ++ r) (allRows n k) (b 0 (omega arith))
+    ∙ ap (λ (z : List Row). map (λ s. a ∷ s) z ++ blocks (n - suc a) (suc a) (allRows n k)) (follows-behind n m k p r s (omega arith) (below-rest n a p b) h)
+    ∙ ap {B = List Row} (λ z. (a ∷ (p ++ s)) ∷ z) (sym (after-first n a (p ++ s) (allRows n k) (b 0 (omega arith))))
 
--- The loop that counts up: before it looks at number i - 1, the numbers from i on have been the last and are now 0.
+-- The loop that counts up the first m of k numbers: before it looks at number i - 1, the numbers from i on are 0, and those of them below
+-- m have been the last.
 
-pub record Counting (n k : ℕ) (row next : List ℕ) (i : ℕ) : Type 0 where
-  pub within : i ≤ k
+pub record Counting (n k m : ℕ) (row next : List ℕ) (i : ℕ) : Type 0 where
+  pub within : i ≤ m
   pub long : length next ≡ 3
   pub same : take k next ≡ take i row ++ replicate (k - i) 0
-  pub final : Final n (drop i (take k row))
+  pub final : Final n (k - i) (drop i (take m row))
 
-module _ (n k : ℕ) (row : List ℕ) (small : k ≤ 3) (three : length row ≡ 3) (nodes : Below n (take k row)) where
-  pub counting-start : Counting n k row row k
+module _ (n k m : ℕ) (row : List ℕ) (head : Heads n k m row) (three : length row ≡ 3) where
+  -- no more than the three numbers of the row are looked at
+  few : m ≤ 3
+  few = omega (arith, head .within, head .few)
+
+  wide : length (take k row) ≡ k
+  wide = length-take-le k row (omega (arith, head .few))
+
+  -- its numbers from m on
+  zeros-behind : drop m (take k row) ≡ replicate (k - m) 0
+  zeros-behind =
+      ext-getD 0 (drop m (take k row)) (replicate (k - m) 0) (omega (arith, long, length-replicate {A = ℕ} (k - m) 0))
+      (λ i l. getD-drop m (take k row) i 0 ∙ getD-take k row (m + i) 0 (omega (arith, long, head .within)) ∙ head .zeros (m + i) (omega arith) (omega (arith, long, head .within))
+      ∙ sym (getD-replicate {A = ℕ} (k - m) i 0 0 (omega (arith, long))))
+    where
+      long : length (drop m (take k row)) ≡ k - m
+      long = length-drop m (take k row) ∙ ap (λ (z : ℕ). z - m) wide
+
+  pub counting-start : Counting n k m row row m
   counting-start =
-      let e : k - k ≡ 0 = omega arith in
       record {
         within = omega arith;
         long = three;
-        same = rw e (sym (append-nil (take k row)));
-        final = rw (drop-of-length-le (take k row) {i = k} (omega (arith, length-take-le k row (omega arith))));
+        same = sym (take-append-drop m (take k row)) ∙ ap₂ (λ (x y : List ℕ). x ++ y) (take-take m k row (head .within)) zeros-behind;
+        final = rw (drop-of-length-le (take m row) {i = m} (omega (arith, length-take-le m row (omega (arith, few))))) (all-begin n (k - m));
       }
 
-  wide : length (take k row) ≡ k
-  wide = length-take-le k row (omega arith)
+  module _ (next : List ℕ) (i : ℕ) (w : Counting n k m row next (suc i)) where
+    inner : i < k
+    inner = omega (arith, w .within, head .within)
 
-  module _ (next : List ℕ) (i : ℕ) (w : Counting n k row next (suc i)) where
     -- number i is still the row's
     counting-read : getD next i 0 ≡ getD row i 0
     counting-read =
-        sym (getD-take k next i 0 (w .within))
+        sym (getD-take k next i 0 inner)
         ∙ ap (λ (l : List ℕ). getD l i 0) (w .same)
-        ∙ List·getD-append (take (suc i) row) (replicate (k - suc i) 0) 0 i (omega (arith, length-take-le (suc i) row (omega (arith, w .within))))
+        ∙ List·getD-append (take (suc i) row) (replicate (k - suc i) 0) 0 i (omega (arith, length-take-le (suc i) row (omega (arith, few, w .within))))
         ∙ getD-take (suc i) row i 0 (omega arith)
 
     counting-put : (v : ℕ) → take k (set next i v) ≡ take i row ++ (v ∷ replicate (k - suc i) 0)
     counting-put v =
-        take-set-lt k next i v (w .within)
+        take-set-lt k next i v inner
         ∙ ap (λ (l : List ℕ). set l i v)
-        (w .same ∙ ap (λ (l : List ℕ). l ++ replicate (k - suc i) 0) (take-suc row i 0 (omega (arith, w .within))) ∙ append-snoc (take i row) (getD row i 0) (replicate (k - suc i) 0))
-        ∙ set-at (take i row) (getD row i 0) (replicate (k - suc i) 0) v i (length-take-le i row (omega (arith, w .within)))
+        (w .same ∙ ap (λ (l : List ℕ). l ++ replicate (k - suc i) 0) (take-suc row i 0 (omega (arith, few, w .within))) ∙ append-snoc (take i row) (getD row i 0) (replicate (k - suc i) 0))
+        ∙ set-at (take i row) (getD row i 0) (replicate (k - suc i) 0) v i (length-take-le i row (omega (arith, few, w .within)))
 
-    end : drop i (take k row) ≡ getD row i 0 ∷ drop (suc i) (take k row)
-    end = drop-cons (take k row) i 0 (omega (arith, wide, w .within)) ∙ rw (getD-take k row i 0 (w .within))
+    end : drop i (take m row) ≡ getD row i 0 ∷ drop (suc i) (take m row)
+    end = drop-cons (take m row) i 0 (omega (arith, length-take-le m row (omega (arith, few)), w .within)) ∙ rw (getD-take m row i 0 (w .within))
 
-    -- number i is below the last: the row that is left is the row after
+    -- a number of the row is a node
+    node : (j : ℕ) → j < k → getD row j 0 < n
+    node j l = rw (getD-take k row j 0 l) at (head .nodes j (omega (arith, wide)))
+
+    -- number i is below the last: the row that is left is the first after the block
     counted : suc (getD next i 0) < n
-        → (take k (set next i (getD next i 0 + 1)) ∷ keep (less (take k (set next i (getD next i 0 + 1)))) (allRows n k)) ≡ keep (less (take k row)) (allRows n k)
-    counted h =
-        rw (counting-put (getD next i 0 + 1), add-one, counting-read)
-        (sym (subst (λ (z : ℕ). keep (less (take k row)) (allRows n z) ≡ s ∷ keep (less s) (allRows n z)) wide behind))
+        → (take k (set next i (getD next i 0 + 1)) ∷ keep (less (take k (set next i (getD next i 0 + 1)))) (allRows n k)) ≡ keep (less (take m row)) (allRows n k)
+    counted h = rw (counting-put (getD next i 0 + 1), add-one, counting-read) (sym behind)
       where
         s : Row
         s = take i row ++ (suc (getD row i 0) ∷ replicate (k - suc i) 0)
 
-        zeros : length (drop (suc i) (take k row)) ≡ k - suc i
-        zeros = length-drop (suc i) (take k row) ∙ ap (λ (z : ℕ). z - suc i) wide
+        up : Follows n (suc (k - suc i)) (drop i (take m row)) (suc (getD row i 0) ∷ replicate (k - suc i) 0)
+        up = rw end (counted-up n (k - suc i) (getD row i 0) (drop (suc i) (take m row)) (rw counting-read at h) (w .final))
 
-        up : Follows n (drop i (take k row)) (suc (getD row i 0) ∷ replicate (k - suc i) 0)
-        up = rw (end, ← zeros) (counted-up n (getD row i 0) (drop (suc i) (take k row)) (rw counting-read at h) (w .final))
+        long : length (take i row) ≡ i
+        long = length-take-le i row (omega (arith, few, w .within))
 
-        behind : Follows n (take k row) s
+        front : take i row ++ drop i (take m row) ≡ take m row
+        front = rw (← take-take i m row (omega (arith, w .within))) (take-append-drop i (take m row))
+
+        behind : Follows n k (take m row) s
         behind =
-            subst (λ (z : Row). Follows n z s) front
-            (follows-behind n (take i row) (drop i (take k row)) (suc (getD row i 0) ∷ replicate (k - suc i) 0)
-            (λ j l. let g : j < i = omega (arith, long) in rw (getD-take i row j 0 g, ← getD-take k row j 0 (omega (arith, w .within))) (nodes j (omega (arith, wide, w .within))))
-            (omega (arith, length-replicate {A = ℕ} (k - suc i) 0, length-drop i (take k row), wide, w .within)) up)
-          where
-            long : length (take i row) ≡ i
-            long = length-take-le i row (omega (arith, w .within))
-
-            front : take i row ++ drop i (take k row) ≡ take k row
-            front = rw (← take-take i k row (omega (arith, w .within))) (take-append-drop i (take k row))
+            subst (λ (z : Row). Follows n k z s) front
+            (follows-behind n (suc (k - suc i)) k (take i row) (drop i (take m row)) (suc (getD row i 0) ∷ replicate (k - suc i) 0) (omega (arith, long, inner))
+            (λ j l. rw (getD-take i row j 0 (omega (arith, long))) (node j (omega (arith, long, inner)))) up)
 
     -- number i is the last: it starts anew
-    counting-more : n ≤ suc (getD next i 0) → Counting n k row (set next i 0) i
+    counting-more : n ≤ suc (getD next i 0) → Counting n k m row (set next i 0) i
     counting-more h =
-        let e : suc (k - suc i) ≡ k - i = omega (arith, w .within) in
+        let e : suc (k - suc i) ≡ k - i = omega (arith, inner) in
         record {
           within = omega (arith, w .within);
           long = length-set next i 0 ∙ w .long;
           same = counting-put 0 ∙ ap (λ (m : ℕ). take i row ++ replicate m 0) e;
           final =
-              rw end
-              (counted-out n (getD row i 0) (drop (suc i) (take k row))
-              (rw (getD-take k row i 0 (w .within)) at (nodes i (omega (arith, wide, w .within)))) (rw counting-read at h) (w .final));
+              subst (λ (z : ℕ). Final n z (drop i (take m row))) e
+              (rw end (counted-out n (k - suc i) (getD row i 0) (drop (suc i) (take m row)) (node i inner) (rw counting-read at h) (w .final)));
         }
 
   -- the same for the loop, which counts i down, and has read the number at i - 1
-  module _ (next : List ℕ) (i m : ℕ) (w : Counting n k row next i) (p : 0 < i) (e : m ≡ getD next (i - 1) 0) where
-    down : Counting n k row next (suc (i - 1))
-    down = subst (λ (z : ℕ). Counting n k row next z) (let s : i ≡ suc (i - 1) = omega arith in s) w
+  module _ (next : List ℕ) (i v : ℕ) (w : Counting n k m row next i) (p : 0 < i) (e : v ≡ getD next (i - 1) 0) where
+    down : Counting n k m row next (suc (i - 1))
+    down = subst (λ (z : ℕ). Counting n k m row next z) (let s : i ≡ suc (i - 1) = omega arith in s) w
 
-    pub counting-again : n ≤ m + 1 → Counting n k row (set next (i - 1) 0) (i - 1)
+    pub counting-again : n ≤ v + 1 → Counting n k m row (set next (i - 1) 0) (i - 1)
     counting-again h = counting-more next (i - 1) down (omega arith)
 
-    pub counting-found : m + 1 < n
-        → (take k (set next (i - 1) (getD next (i - 1) 0 + 1)) ∷ keep (less (take k (set next (i - 1) (getD next (i - 1) 0 + 1)))) (allRows n k)) ≡ keep (less (take k row)) (allRows n k)
+    pub counting-found : v + 1 < n
+        → (take k (set next (i - 1) (getD next (i - 1) 0 + 1)) ∷ keep (less (take k (set next (i - 1) (getD next (i - 1) 0 + 1)))) (allRows n k)) ≡ keep (less (take m row)) (allRows n k)
     counting-found h = counted next (i - 1) down (omega arith)
 
-  -- no number is below the last: the row is the last of all
-  pub counting-done : (next : List ℕ) (i : ℕ) → Counting n k row next i → i ≤ 0 → [] ≡ keep (less (take k row)) (allRows n k)
+  -- no number is below the last: no row is after the block
+  pub counting-done : (next : List ℕ) (i : ℕ) → Counting n k m row next i → i ≤ 0 → [] ≡ keep (less (take m row)) (allRows n k)
   counting-done next i w h =
       let e : i ≡ 0 = omega arith in
-      sym (subst (λ (z : ℕ). keep (less (take k row)) (allRows n z) ≡ []) wide (subst (λ (z : ℕ). Final n (drop z (take k row))) e (w .final)))
+      sym (subst (λ (z : ℕ). Final n z (take m row)) (let z : k - 0 ≡ k = omega arith in z) (subst (λ (z : ℕ). Final n (k - z) (drop z (take m row))) e (w .final)))

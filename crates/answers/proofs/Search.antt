@@ -13,6 +13,7 @@ use Rattle.model.specs.Sets.{any, tab, ones, memb, upto, image}
 use Rattle.model.specs.Tree.{sizeOf}
 use Rattle.model.specs.QueryTable.{lastOf}
 use Rattle.model.specs.Results.{related}
+use Rattle.model.specs.Accepted.{Below}
 use Rattle.model.specs.Answers.{Row, less, keep, consIf, allRows, satisfied, answers}
 use Rattle.model.specs.Pages.{rowOf, hasBegun, after}
 use Rattle.model.proofs.Exists.{any-cong, any-swap}
@@ -22,8 +23,9 @@ use Rattle.model.proofs.Answers.{In, kept-in, all-below}
 use Rattle.sets.specs.NodeSets.{always}
 use Rattle.eval.specs.Evaluation.{reached}
 use Rattle.answers.specs.declared.Spot.{Spot}
-use Rattle.answers.specs.Search.{rowAt, ahead, Stands}
+use Rattle.answers.specs.Search.{rowAt, ahead, Stands, Heads, EmptyBlock}
 use Rattle.answers.proofs.Odometer.{zeros-first}
+use Rattle.answers.proofs.EmptyBlocks.{block-left-out, block-fewer}
 use Rattle.answers.proofs.Paging.{in-after}
 
 -- one evaluation: the image of all nodes has a node exactly if the query has a pair
@@ -54,6 +56,10 @@ has-pair t q row full bytes k p r f h =
         memb-tab 256 I y (omega arith)
         ∙ rw (lt-ltb y n l)
         (any-cong n (λ x. memb all x && R x y) (λ x. R x y) (λ x k. rw (memb-tab 256 (λ k. ltb k n && true) x (omega arith), lt-ltb x n k)))
+
+-- a row is the first of those that begin with all its numbers
+pub heads-itself : {n k : ℕ} {row : List ℕ} → k ≤ 3 → Below n (take k row) → Heads n k k row
+heads-itself few nodes = record { few = few; within = omega arith; nodes = nodes; zeros = λ j l h. absurd (omega arith) }
 
 -- where a cursor goes on
 
@@ -126,10 +132,14 @@ module _ (t q : List ℕ) (k : ℕ) where
     pub seek-done : at .there ≡ false → ahead k (answers t q k) at ≡ keep (satisfied t q) (ahead k (allRows (sizeOf t) k) s)
     seek-done h = rw h (let w = rw h at inv in w)
 
-    module _ (r : Spot) (e : ahead k (allRows (sizeOf t) k) r ≡ keep (less (rowAt k at)) (allRows (sizeOf t) k)) (h : at .there ≡ true) where
+    -- behind an empty block that begins with the row
+    module _ (i : ℕ) (w : EmptyBlock t q k i (at .row)) (r : Spot) (e : ahead k (allRows (sizeOf t) k) r ≡ keep (less (take i (at .row))) (allRows (sizeOf t) k)) (h : at .there ≡ true) where
       pub seek-on : (b : Bool) → b ≡ satisfied t q (rowAt k at) → b ≡ false
           → keep (satisfied t q) (ahead k (allRows (sizeOf t) k) r) ≡ keep (satisfied t q) (ahead k (allRows (sizeOf t) k) s)
-      seek-on b p f = ap (keep (satisfied t q)) e ∙ (let w = rw (h, sym p ∙ f) at inv in w)
+      seek-on b p f =
+          ap (keep (satisfied t q)) e
+          ∙ answers-kept (less (take i (at .row))) ∙ block-left-out w ∙ sym (answers-kept (less (rowAt k at)))
+          ∙ (let w = rw (h, sym p ∙ f) at inv in w)
 
       pub seek-less : length (ahead k (allRows (sizeOf t) k) r) < length (ahead k (allRows (sizeOf t) k) at)
-      seek-less = rw (e, h) (omega arith)
+      seek-less = rw (e, h) (omega (arith, block-fewer w (allRows (sizeOf t) k)))

@@ -1,17 +1,27 @@
 // The answers of a query, page by page (document 01: the pages of a pick list). A call checks all that it is lent, and then
-// looks at the rows after the cursor's, one evaluation a row, until it has found one answer more than there is room for: at
-// worst n to the power of the number of variables.
+// looks at the rows after the cursor's, in their order, until it has found one answer more than there is room for. A row is tried by one
+// evaluation of what the variables decide of the query; all else is evaluated once a call (crate `narrowing`). Behind a row that is no
+// answer, whole blocks of rows are left out in which the query cannot hold (module `blocks`). At worst, where no block is left out, n to
+// the power of the number of variables are tried.
+mod blocks;
+mod next;
+mod rows;
+
 ghost use mathlib.Core.Path.{_≡_};
-ghost use mathlib.Core.Bool.{true, cond};
+ghost use mathlib.Core.Bool.{true, _&&_, cond};
 ghost use Prim.Native.Nat.{_+_, _≤_, _<_};
 ghost use lib.ListN.{length, take};
 ghost use lib.Seq.{paste};
 ghost use Rattle.model.specs.Tree.{sizeOf};
-ghost use Rattle.model.specs.Answers.{less, keep, allRows, satisfied, answers};
-ghost use Rattle.model.specs.Pages.{rowOf, hasBegun, after, atRow, paged};
-ghost use Rattle.model.specs.Accepted.{AcceptedTree, Below};
+ghost use Rattle.model.specs.Answers.{satisfied, answers};
+ghost use Rattle.model.specs.Pages.{rowOf, hasBegun, atRow, paged};
+ghost use Rattle.model.specs.QueryTable.{entriesOf};
+ghost use Rattle.model.specs.Accepted.{AcceptedTree, Below, Formed};
+ghost use Rattle.nesting.specs.Nesting.{deep};
+ghost use lib.Dec.{ltb};
 ghost use Rattle.model.specs.Services.{pageOutcome, PageLeaves};
-ghost use Rattle.answers.specs.Search.{ahead, Stands, Searchable, pageOf, refusedPage};
+ghost use Rattle.engines.specs.Engines.{Searchable};
+ghost use Rattle.answers.specs.Search.{Listed, Prepared, pageOf, refusedPage};
 
 // The reply to a page call, and the cursor after it.
 pub struct Paged {
@@ -25,118 +35,45 @@ pub struct Spot {
     pub row: [u16; 3],
 }
 
-// All rows, in their order.
-
-// The row after a row, in a tree of n nodes: the last number that can be counted up is, and those behind it start anew. At
-// most k turns.
-fn next(n: usize, k: usize, row: [u16; 3]) -> Spot
-    requires { ⌜ (n ≤ 256) × ((k ≤ 3) × Below n (take k row)) ⌝ }
-    ensures { λ r. ⌜ ahead k (allRows n k) r ≡ keep (less (take k row)) (allRows n k) ⌝ }
-{
-    let mut next = row;
-    let mut i = k;
-    while 0 < i {
-        i -= 1;
-        if model::wide(next[i]) + 1 < n {
-            next[i] += 1;
-            return Spot {
-                there: true,
-                row: next,
-            };
-        }
-        next[i] = 0;
-    }
-    Spot {
-        there: false,
-        row: next,
-    }
+// How the rows of a page are tried, beside the two sets of nodes that the arrays hold: for so many variables; by whole tables or by sets
+// (crate `engines`); how many variables must be bound before rows can be left out (crate `pruning`); and the entry of the query that is
+// left, with whether that is evaluated by whole tables, and whether the pairs of it may end at some nodes only (crate `narrowing`).
+struct Plan {
+    columns: usize,
+    whole: bool,
+    bound: usize,
+    entry: usize,
+    within: bool,
+    cut: bool,
 }
-
-// Where a cursor goes on: at the row after its own, or at the first of all.
-fn start(n: usize, k: usize, cursor: model::Cursor) -> Spot
-    requires { ⌜ (1 ≤ n) × ((n ≤ 256) × ((k ≤ 3) × (hasBegun cursor ≡ true → Below n (rowOf k cursor)))) ⌝ }
-    ensures { λ r. ⌜ ahead k (allRows n k) r ≡ after k (allRows n k) cursor ⌝ }
-{
-    let begun = cursor.begun != 0;
-    if begun {
-        return next(n, k, [cursor.first, cursor.second, cursor.third]);
-    }
-    Spot {
-        there: true,
-        row: [0, 0, 0],
-    }
-}
-
-// The answers among them.
 
 // The query has a pair under the row, from any start: the forward image of all nodes is not empty. One evaluation.
-pub fn satisfies(tree: &[u16], prev: &[u16], query: &[u16], k: usize, row: [u16; 3]) -> bool
+pub fn satisfies(
+    tree: &[u16],
+    prev: &[u16],
+    query: &[u16],
+    whole: bool,
+    k: usize,
+    row: [u16; 3],
+) -> bool
     requires { ⌜ Searchable (now tree) (now prev) (now query) k × Below (sizeOf (now tree)) (take k row) ⌝ }
     ensures { λ r. ⌜ r ≡ satisfied (now (tree .entry)) (now (query .entry)) (take k row) ⌝ }
 {
     let n = tree.len() / 2;
     let last = query.len() / 4 - 1;
     let mut found = 0;
-    eval::path(
+    engines::image(
         tree,
         prev,
         query,
         &row[..k],
+        whole,
         last,
         false,
         sets::full(n),
         &mut found,
     );
     found != 0
-}
-
-// The first answer at or after a spot. One evaluation for each row that is looked at.
-fn seek(tree: &[u16], prev: &[u16], query: &[u16], k: usize, spot: Spot) -> Spot
-    requires { ⌜ Searchable (now tree) (now prev) (now query) k × Stands (sizeOf (now tree)) k spot ⌝ }
-    ensures { λ r.
-        ⌜
-        ahead k (answers (now (tree .entry)) (now (query .entry)) k) r
-        ≡ keep (satisfied (now (tree .entry)) (now (query .entry))) (ahead k (allRows (sizeOf (now (tree .entry))) k) spot)
-        ⌝ }
-{
-    let n = tree.len() / 2;
-    let mut at = spot;
-    while at.there {
-        let row = at.row;
-        if satisfies(tree, prev, query, k, row) {
-            return at;
-        }
-        let following = next(n, k, row);
-        at = following;
-    }
-    at
-}
-
-// The first answer after a row. One evaluation for each row that is looked at.
-fn answer_after(tree: &[u16], prev: &[u16], query: &[u16], k: usize, row: [u16; 3]) -> Spot
-    requires { ⌜ Searchable (now tree) (now prev) (now query) k × Below (sizeOf (now tree)) (take k row) ⌝ }
-    ensures { λ r.
-        ⌜
-        ahead k (answers (now (tree .entry)) (now (query .entry)) k) r
-        ≡ keep (less (take k row)) (answers (now (tree .entry)) (now (query .entry)) k)
-        ⌝ }
-{
-    seek(tree, prev, query, k, next(tree.len() / 2, k, row))
-}
-
-// The first answer after a cursor's row, or the first of all. One evaluation for each row that is looked at.
-fn first_answer(tree: &[u16], prev: &[u16], query: &[u16], k: usize, cursor: model::Cursor) -> Spot
-    requires { ⌜
-        Searchable (now tree) (now prev) (now query) k
-        × (hasBegun cursor ≡ true → Below (sizeOf (now tree)) (rowOf k cursor))
-        ⌝ }
-    ensures { λ r.
-        ⌜
-        ahead k (answers (now (tree .entry)) (now (query .entry)) k) r
-        ≡ after k (answers (now (tree .entry)) (now (query .entry)) k) cursor
-        ⌝ }
-{
-    seek(tree, prev, query, k, start(tree.len() / 2, k, cursor))
 }
 
 // A page of them.
@@ -189,27 +126,31 @@ pub fn page_of(count: usize, more: bool, last: model::Cursor) -> Paged
 }
 
 // The answers after a cursor are written to a buffer, as many as it has whole room for, and one more is looked for, to tell
-// whether there is one. One evaluation for each row that is looked at, up to that one.
+// whether there is one.
 fn write_page(
     tree: &[u16],
     prev: &[u16],
     query: &[u16],
-    k: usize,
+    plan: Plan,
+    from: &[u8],
+    to: &[u8],
     cursor: model::Cursor,
     rows: &mut [u16],
 ) -> Paged
     requires { ⌜
-        Searchable (now tree) (now prev) (now query) k
-        × (hasBegun cursor ≡ true → Below (sizeOf (now tree)) (rowOf k cursor))
+        Prepared (now tree) (now prev) (now query) plan (now from) (now to)
+        × (hasBegun cursor ≡ true → Below (sizeOf (now tree)) (rowOf (plan .columns) cursor))
         ⌝ }
     ensures { λ r.
         ⌜
-        PageLeaves (paged k (answers (now (tree .entry)) (now (query .entry)) k) cursor (now (rows .entry)))
+        PageLeaves
+        (paged (plan .columns) (answers (now (tree .entry)) (now (query .entry)) (plan .columns)) cursor (now (rows .entry)))
         (r .reply) (r .cursor) (now (rows .exit))
         ⌝ }
 {
+    let k = plan.columns;
     let room = rows.len() / k;
-    let mut at = first_answer(tree, prev, query, k, cursor);
+    let mut at = next::first_answer(tree, prev, query, plan, from, to, cursor);
     let mut last = cursor;
     let mut count = 0;
     while at.there {
@@ -220,10 +161,62 @@ fn write_page(
         write_row(k, row, rows, count * k);
         last = cursor_at(k, last, row);
         count += 1;
-        let following = answer_after(tree, prev, query, k, row);
+        let following = next::answer_after(tree, prev, query, plan, from, to, row);
         at = following;
     }
     page_of(count, false, last)
+}
+
+// What is left of a query nests, as the query does: where the nest is evaluated once for all rows, a row goes by sets.
+fn still_nests(query: &[u16], whole: bool, entry: usize) -> bool
+    requires { ⌜ Formed (now query) × (entriesOf (now query) ≤ 66) ⌝ }
+    ensures { λ r. ⌜ r ≡ whole && (ltb entry (entriesOf (now (query .entry))) && deep (now (query .entry)) entry) ⌝ }
+{
+    let left = entry < query.len() / 4;
+    if !whole {
+        return false;
+    }
+    if !left {
+        return false;
+    }
+    nesting::nests_at(query, entry)
+}
+
+// The same, of a query that is looked at once for all rows: which engine evaluates it, what of it no variable decides, and from which
+// variable on blocks can be left out.
+fn prepare_page(
+    tree: &[u16],
+    prev: &[u16],
+    query: &[u16],
+    k: usize,
+    cursor: model::Cursor,
+    rows: &mut [u16],
+) -> Paged
+    requires { ⌜
+        Listed (now tree) (now prev) (now query) k
+        × (hasBegun cursor ≡ true → Below (sizeOf (now tree)) (rowOf k cursor))
+        ⌝ }
+    ensures { λ r.
+        ⌜
+        PageLeaves (paged k (answers (now (tree .entry)) (now (query .entry)) k) cursor (now (rows .entry)))
+        (r .reply) (r .cursor) (now (rows .exit))
+        ⌝ }
+{
+    let whole = nesting::nests(query);
+    let bound = pruning::bound(query);
+    let narrowed = narrowing::narrow(tree, prev, query, whole, k);
+    let within = still_nests(query, whole, narrowed.entry);
+    let plan = Plan {
+        columns: k,
+        whole: whole,
+        bound: bound,
+        entry: narrowed.entry,
+        within: within,
+        cut: narrowed.cut,
+    };
+    let from = narrowed.from;
+    let to = narrowed.to;
+    write_page(tree, prev, query, plan, &from, &to, cursor, rows)
 }
 
 // The reply to a refused call, and the cursor as it was.
@@ -262,5 +255,5 @@ pub fn page_from(
         return refused(v, cursor);
     }
     let prev = tree::previous_siblings(tree);
-    write_page(tree, &prev, query, columns, cursor, rows)
+    prepare_page(tree, &prev, query, columns, cursor, rows)
 }

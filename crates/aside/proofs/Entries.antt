@@ -2,11 +2,10 @@
 use Prim.Native.Nat.{ℕ, zero, suc, _+_, _*_, _≤_, _<_, max}
 use native.Mathlib.Nat.{not-suc-le-zero}
 use native.Mathlib.Omega.{arith}
-use mathlib.Core.Path.{_≡_, sym, ap, _∙_, subst}
+use mathlib.Core.Path.{_≡_, sym, ap, _∙_}
 use mathlib.Core.Bool.{Bool, true, false, not, cond}
 use mathlib.Core.List.{List}
-use lib.ListN.{getD, set, replicate, length-set, length-replicate}
-use lib.Seq.{getD-set-same, getD-set-other}
+use lib.ListN.{getD}
 use borrow.Author.Tests.{not-true, not-false}
 use Rattle.model.specs.declared.Entry.{Entry}
 use Rattle.model.specs.Sets.{bit}
@@ -14,14 +13,14 @@ use Rattle.model.specs.Encoding.{size}
 use Rattle.model.specs.QueryTable.{entriesOf, kind, left, right, entry}
 use Rattle.model.specs.Kinds.{leftPath, rightPath, rightExpr, hasLeft, hasRight}
 use Rattle.model.proofs.Booleans.{no-yes, yes-right, or-left}
-use Rattle.model.proofs.Shaped.{left-lower, right-lower}
-use Rattle.model.specs.Accepted.{Shaped}
+use Rattle.model.proofs.Formed.{left-lower, right-lower}
+use Rattle.model.specs.Accepted.{Formed}
 use Rattle.aside.specs.Aside.{inTurn, twoTables, asideIn, termAt, asideAt, CountsTo}
 use Rattle.aside.proofs.Turns.{either-left, either-right, either-most}
 use Rattle.aside.proofs.Terms.{Form, form}
 use Rattle.aside.proofs.Terms.Form.{none!, one!, two! }
 
-module _ (q : List ℕ) (ok : Shaped q) (e : ℕ) (em : e < entriesOf q) where
+module _ (q : List ℕ) (ok : Formed q) (e : ℕ) (em : e < entriesOf q) where
   -- an entry with no operand: kinds 0, 6 and 12
   pub aside-none : hasLeft (kind q e) ≡ false → asideAt q e ≡ 0
   unfolding asideIn
@@ -84,7 +83,7 @@ module _ (q : List ℕ) (ok : Shaped q) (e : ℕ) (em : e < entriesOf q) where
       go (two! a b l r p) = rw (a, b) (ap size p ∙ omega arith)
 
 -- an entry keeps no more tables aside than there are entries before it
-pub aside-within : (q : List ℕ) → Shaped q → (e : ℕ) → e < entriesOf q → asideAt q e ≤ e
+pub aside-within : (q : List ℕ) → Formed q → (e : ℕ) → e < entriesOf q → asideAt q e ≤ e
 aside-within q ok e em = go (suc e) e (omega arith) em
   where
     at : (e : ℕ) → e < entriesOf q → ((i : ℕ) → i < e → asideAt q i ≤ i) → Form q e → asideAt q e ≤ e
@@ -101,7 +100,7 @@ aside-within q ok e em = go (suc e) e (omega arith) em
 
 -- one entry, from the counts of those before it
 
-module _ {q : List ℕ} {e : ℕ} {f : Entry} (fe : f ≡ entry q e) (ok : Shaped q) (em : e < entriesOf q) where
+module _ {q : List ℕ} {e : ℕ} {f : Entry} (fe : f ≡ entry q e) (ok : Formed q) (few : entriesOf q ≤ 66) (em : e < entriesOf q) where
   pub did-none : (b : Bool) → b ≡ hasLeft (f .kind) → not b ≡ true → 0 ≡ asideAt q e
   did-none b p h = sym (aside-none q ok e em (rw fe at (sym p) ∙ not-true b h))
 
@@ -109,17 +108,16 @@ module _ {q : List ℕ} {e : ℕ} {f : Entry} (fe : f ≡ entry q e) (ok : Shape
     has-left : hasLeft (kind q e) ≡ true
     has-left = rw fe at (sym p) ∙ not-false b h
 
-    pub left-index : f .left < 64
-    left-index = let l : left q e < e = left-lower q ok e em has-left in let m = ok .few in rw fe (omega arith)
+    pub left-index : f .left < 66
+    left-index = let l : left q e < e = left-lower q ok e em has-left in rw fe (omega arith)
 
     module _ (kept : List ℕ) (c : CountsTo q e kept) where
       at-left : getD kept (f .left) 0 ≡ asideAt q (left q e)
       at-left = rw fe (c .at (left q e) (left-lower q ok e em has-left))
 
-      pub left-small : getD kept (f .left) 0 < 64
+      pub left-small : getD kept (f .left) 0 < 66
       left-small =
           let l : left q e < e = left-lower q ok e em has-left in
-          let m = ok .few in
           omega (arith, at-left, aside-within q ok (left q e) (omega arith))
 
       pub did-one : (d : Bool) → d ≡ hasRight (f .kind) → not d ≡ true → getD kept (f .left) 0 ≡ asideAt q e
@@ -138,24 +136,5 @@ module _ {q : List ℕ} {e : ℕ} {f : Entry} (fe : f ≡ entry q e) (ok : Shape
         pub did-larger : (o : ℕ) → o ≡ max (getD kept (f .left) 0) (getD kept (f .right) 0) → (m : Bool) → m ≡ twoTables (f .kind) → m ≡ false → o ≡ asideAt q e
         did-larger o g m s l = g ∙ rw (at-left, at-right) (sym (aside-larger q ok e em has-right (rw fe at (sym s) ∙ l)))
 
-  pub right-index : (d : Bool) → d ≡ hasRight (f .kind) → not d ≡ false → f .right < 64
-  right-index d r k = let l : right q e < e = right-lower q ok e em (rw fe at (sym r) ∙ not-false d k) in let m = ok .few in rw fe (omega arith)
-
--- the pass over the entries
-
-module _ (q : List ℕ) where
-  pub counts-start : CountsTo q 0 (replicate 64 0)
-  counts-start = record { size = length-replicate {A = ℕ} 64 0; at = λ e l. absurd (not-suc-le-zero l) }
-
-  pub counts-next : (e k : ℕ) (kept : List ℕ) → CountsTo q e kept → k ≡ asideAt q e → e < entriesOf q → Shaped q → CountsTo q (e + 1) (set kept e k)
-  counts-next e k kept c p em ok = record { size = length-set kept e k ∙ c .size; at = here }
-    where
-      here : (i : ℕ) → i < e + 1 → getD (set kept e k) i 0 ≡ asideAt q i
-      here i l = go (native.Mathlib.Decide.ℕ-discrete i e)
-        where
-          go : Dec (i ≡ e) → getD (set kept e k) i 0 ≡ asideAt q i
-          go (yes h) = rw h (getD-set-same kept e k 0 (rw (c .size) (let m = ok .few in omega arith)) ∙ p)
-          go (no h) = getD-set-other kept e i k 0 h ∙ c .at i (omega arith)
-
-  pub counts-end : (e n : ℕ) (kept : List ℕ) → CountsTo q e kept → e ≤ n → n ≤ e → CountsTo q n kept
-  counts-end e n kept c l h = subst (λ (k : ℕ). CountsTo q k kept) (let g : e ≡ n = omega arith in g) c
+  pub right-index : (d : Bool) → d ≡ hasRight (f .kind) → not d ≡ false → f .right < 66
+  right-index d r k = let l : right q e < e = right-lower q ok e em (rw fe at (sym r) ∙ not-false d k) in rw fe (omega arith)

@@ -19,7 +19,7 @@ use Rattle.model.specs.Accepted.{Shaped}
 use Rattle.aside.specs.Aside.{twoTables, asideIn, aside, entriesIn, termAt, asideAt}
 use Rattle.aside.proofs.Turns.{either-power}
 use Rattle.aside.proofs.Terms.{term-path}
-use Rattle.model.proofs.Shaped.{left-lower, right-lower}
+use Rattle.model.proofs.Formed.{left-lower, right-lower}
 use Rattle.aside.proofs.Entries.{size-at}
 use Rattle.aside.proofs.Sums.{sum, times, sum-never, sum-once, sum-more, sum-pick}
 
@@ -58,8 +58,8 @@ module _ (q : List ℕ) (ok : Shaped q) where
   operands n k l em =
       sum-more made (λ j. bit (hasLeft (kind q k) && eqb (left q k) j)) (λ j. bit (hasRight (kind q k) && eqb (right q k) j)) n
       ∙ rw (
-        sum-pick made (hasLeft (kind q k)) (left q k) n (λ h. let m : left q k < k = left-lower q ok k em h in omega arith),
-        sum-pick made (hasRight (kind q k)) (right q k) n (λ h. let m : right q k < k = right-lower q ok k em h in omega arith),
+        sum-pick made (hasLeft (kind q k)) (left q k) n (λ h. let m : left q k < k = left-lower q (ok .formed) k em h in omega arith),
+        sum-pick made (hasRight (kind q k)) (right q k) n (λ h. let m : right q k < k = right-lower q (ok .formed) k em h in omega arith),
       )
 
   counted : (n k : ℕ) → k ≤ n → n ≤ entriesOf q → sum made k ≡ k + sum (times (λ j. uses q j k) made) n
@@ -68,7 +68,7 @@ module _ (q : List ℕ) (ok : Shaped q) where
   counted n (suc k) l em =
       let ih : sum made k ≡ k + sum (times (λ j. uses q j k) made) n = counted n k (omega arith) em in
       rw (sum-more made (λ j. uses q j k) (λ j. naming j (entry q k)) n)
-      (omega (arith, operands n k (omega arith) (omega arith), size-at q ok k (omega arith)))
+      (omega (arith, operands n k (omega arith) (omega arith), size-at q (ok .formed) k (omega arith)))
 
   last : (m : ℕ) → suc m ≤ entriesOf q → ((i : ℕ) → i < m → uses q i (suc m) ≡ 1) → made m ≡ suc m
   unfolding sum

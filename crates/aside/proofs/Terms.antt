@@ -7,9 +7,9 @@ use Rattle.model.specs.Syntax.{Path, NodeExpr}
 use Rattle.model.specs.Encoding.{Term, pathTerm, exprTerm}
 use Rattle.model.specs.QueryTable.{entriesOf, kind, left, right, tag, pathAt, exprAt}
 use Rattle.model.specs.Kinds.{isPath, leftPath, leftExpr, rightPath, rightExpr, hasLeft, hasRight}
-use Rattle.model.proofs.Shaped.{PathBefore, ExprBefore, Read, read, sort-of}
-use Rattle.model.proofs.Shaped.Read.{step!, compose!, union!, intersect!, except!, filter!, variable!, root!, exists!, negate!, both!, either!, is!, closure!, same! }
-use Rattle.model.specs.Accepted.{Shaped}
+use Rattle.model.proofs.Formed.{PathBefore, ExprBefore, Read, read, sort-of}
+use Rattle.model.proofs.Formed.Read.{step!, compose!, union!, intersect!, except!, filter!, variable!, root!, exists!, negate!, both!, either!, is!, closure!, same! }
+use Rattle.model.specs.Accepted.{Formed}
 use Rattle.aside.specs.Aside.{termAt}
 
 -- an entry with no operand, with one, with two
@@ -71,5 +71,5 @@ module _ (q : List ℕ) where
     form-of (closure! h l p) = one-of 13 _ h refl refl (path-before (left q e) l) (path-of 13 _ refl h p)
     form-of (same! h l r p) = two-of 14 _ _ h refl refl (path-before (left q e) l) (path-before (right q e) r) (expr-of 14 _ refl h p)
 
-  pub form : Shaped q → (e : ℕ) → e < entriesOf q → Form q e
+  pub form : Formed q → (e : ℕ) → e < entriesOf q → Form q e
   form ok e l = form-of e (read q ok e l)

@@ -42,10 +42,14 @@ termAt q e = cond (isPath (kind q e)) (pathTerm (pathAt q e)) (exprTerm (exprAt 
 abbrev pub asideAt : List ℕ → ℕ → ℕ
 asideAt q e = asideIn (termAt q e)
 
--- 64 bytes, the first n of them how many tables are kept aside for each entry
-pub record CountsTo (q : List ℕ) (n : ℕ) (r : List ℕ) : Type 0 where
-  pub size : length r ≡ 64
-  pub at : (e : ℕ) → e < n → getD r e 0 ≡ asideAt q e
+-- 66 bytes, the first n of them a number for each entry: a query of 64 entries has two more where it is opened
+pub record NumbersTo (f : ℕ → ℕ) (n : ℕ) (r : List ℕ) : Type 0 where
+  pub size : length r ≡ 66
+  pub at : (e : ℕ) → e < n → getD r e 0 ≡ f e
+
+-- the first n of them how many tables are kept aside for each entry
+abbrev pub CountsTo : List ℕ → ℕ → List ℕ → Type 0
+CountsTo q n r = NumbersTo (asideAt q) n r
 
 -- the same for every entry of the table
 abbrev pub Counts : List ℕ → List ℕ → Type 0

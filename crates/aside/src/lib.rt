@@ -1,14 +1,14 @@
 // How many tables the evaluation over bits keeps aside for each entry of a query: the operand that needs more is evaluated first, so
 // that five are enough for 64 entries (proofs/Five.antt).
 ghost use mathlib.Core.Path.{_≡_};
-ghost use Prim.Native.Nat.{_<_, max};
+ghost use Prim.Native.Nat.{_≤_, _<_, max};
 ghost use Rattle.model.specs.QueryTable.{entriesOf};
-ghost use Rattle.model.specs.Accepted.{Shaped};
+ghost use Rattle.model.specs.Accepted.{Formed};
 ghost use Rattle.aside.specs.Aside.{inTurn, twoTables, asideAt, CountsTo, Counts};
 
 // The tables aside for two operands that are evaluated in turn, both of them tables.
 fn in_turn(a: u8, b: u8) -> u8
-    requires { ⌜ a < 64 ⌝ }
+    requires { ⌜ a < 66 ⌝ }
     ensures { λ r. ⌜ r ≡ inTurn a b ⌝ }
 {
     if a < b {
@@ -28,7 +28,7 @@ fn two_tables(k: usize) -> bool
 }
 
 // The larger of two numbers.
-fn larger(a: u8, b: u8) -> u8
+pub fn larger(a: u8, b: u8) -> u8
     ensures { λ r. ⌜ r ≡ max a b ⌝ }
 {
     if a < b {
@@ -38,8 +38,8 @@ fn larger(a: u8, b: u8) -> u8
 }
 
 // The tables aside for entry e, from those of the entries before it.
-fn of_entry(query: &[u16], kept: [u8; 64], e: usize) -> u8
-    requires { ⌜ Shaped (now query) × (CountsTo (now query) e kept × (e < entriesOf (now query))) ⌝ }
+fn of_entry(query: &[u16], kept: [u8; 66], e: usize) -> u8
+    requires { ⌜ Formed (now query) × ((entriesOf (now query) ≤ 66) × (CountsTo (now query) e kept × (e < entriesOf (now query)))) ⌝ }
     ensures { λ r. ⌜ r ≡ asideAt (now (query .entry)) e ⌝ }
 {
     let f = query::entry_at(query, e);
@@ -63,13 +63,14 @@ fn of_entry(query: &[u16], kept: [u8; 64], e: usize) -> u8
     larger(a, b)
 }
 
-// For each entry, how many tables are kept aside while it is evaluated. One turn an entry, in the order of the table.
-pub fn counts(query: &[u16]) -> [u8; 64]
-    requires { ⌜ Shaped (now query) ⌝ }
+// For each entry, how many tables are kept aside while it is evaluated. One turn an entry, in the order of the table. There
+// are 66, since a query of 64 entries has two more where it is opened.
+pub fn counts(query: &[u16]) -> [u8; 66]
+    requires { ⌜ Formed (now query) × (entriesOf (now query) ≤ 66) ⌝ }
     ensures { λ r. ⌜ Counts (now (query .entry)) r ⌝ }
 {
     let n = query.len() / 4;
-    let mut kept = [0u8; 64];
+    let mut kept = [0u8; 66];
     let mut e = 0;
     while e < n {
         let k = of_entry(query, kept, e);

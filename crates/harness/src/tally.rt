@@ -2,7 +2,7 @@
 use super::table;
 
 // The replies by their number (0 to 36), and the sums below.
-pub type Tally = [u64; 68];
+pub type Tally = [u64; 71];
 
 // For how many parties that asked for a random shared table a closure of the query decided, and a `same`.
 pub const CLOSING: usize = 37;
@@ -81,16 +81,24 @@ pub const THROUGH: usize = 66;
 // In how many deep queries a closure decided.
 pub const DECIDING: usize = 67;
 
+// How many lists of answers had a block that a page leaves out after no variable has a node, after one has and after two have.
+const BLOCKS: usize = 68;
+
 pub fn add(tally: &mut Tally, at: usize, more: u64) {
-    if at < 68 {
+    if at < 71 {
         let sum = std::num::wrapping_add_u64(tally[at], more);
         tally[at] = sum;
     }
 }
 
+// A list of answers, if it is one, had a block that is left out after so many variables, at most two.
+pub fn add_block(tally: &mut Tally, variables: usize, more: u64) {
+    add(tally, std::num::wrapping_add_usize(BLOCKS, variables), more);
+}
+
 // Number k, below 15, was met.
 pub fn meet(tally: &mut Tally, at: usize, k: usize) {
-    if at < 68 {
+    if at < 71 {
         if k < 15 {
             let bits = tally[at] | (1 << k);
             tally[at] = bits;
@@ -99,13 +107,13 @@ pub fn meet(tally: &mut Tally, at: usize, k: usize) {
 }
 
 fn clear(tally: &mut Tally, at: usize) {
-    if at < 68 {
+    if at < 71 {
         tally[at] = 0;
     }
 }
 
 fn sum_at(tally: &Tally, at: usize) -> u64 {
-    if at < 68 {
+    if at < 71 {
         return tally[at];
     }
     0
@@ -229,6 +237,13 @@ pub fn expect_gaps(tally: &mut Tally, some: usize, of: usize) {
     expect(tally, sum_at(tally, AXES) == 8191);
 }
 
+// Of the lists of answers no fewer than some of so many had a block that is left out after so many variables.
+pub fn expect_blocks(tally: &mut Tally, variables: usize, some: usize, of: usize) {
+    let whole = lists(tally) as u64;
+    let at = std::num::wrapping_add_usize(BLOCKS, variables);
+    expect_share(tally, at, whole, some, of);
+}
+
 // One of these sums is not 0, and no less than some of so many of a whole.
 fn expect_share(tally: &mut Tally, at: usize, whole: u64, some: usize, of: usize) {
     let part = sum_at(tally, at);
@@ -347,6 +362,21 @@ fn show_found(tally: &Tally, at: usize, name: &[u8]) {
     show_number(count, b"\n");
 }
 
+// What of the lists could be left out.
+fn show_blocks(tally: &Tally) {
+    show_found(tally, BLOCKS, b"lists with nothing to look for: ");
+    show_found(
+        tally,
+        BLOCKS + 1,
+        b"lists with a block to leave out after one variable: ",
+    );
+    show_found(
+        tally,
+        BLOCKS + 2,
+        b"lists with a block to leave out after two: ",
+    );
+}
+
 // What the results and the pages held.
 fn show_results(tally: &Tally) {
     show_found(tally, NODES, b"nodes in results: ");
@@ -357,6 +387,7 @@ fn show_results(tally: &Tally) {
     show_found(tally, GAPS, b"lists with gaps: ");
     show_found(tally, EMPTY, b"lists of no row: ");
     show_found(tally, FULL, b"lists of every row: ");
+    show_blocks(tally);
     show_found(
         tally,
         KEPT,

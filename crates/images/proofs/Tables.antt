@@ -1,15 +1,17 @@
--- From the 256 bytes of a node set to what a service writes: the front of a buffer, and a relation's table row after row.
+-- From what the engines make to what a service writes: the front of a buffer, and a relation's table, from its table of bits and row after
+-- row.
 use Prim.Native.Nat.{ℕ, _+_, _-_, _*_, _<_, _≤_}
 use native.Mathlib.Nat.{mul-le-mul-right}
 use native.Mathlib.Omega.{arith}
 use mathlib.Core.Path.{_≡_, sym, ap, _∙_}
-use mathlib.Core.Bool.{Bool, false}
+use mathlib.Core.Bool.{Bool, true, false}
 use mathlib.Core.List.{List, _++_, append-assoc, append-nil}
 use lib.ListN.{length, take, drop, length-drop, drop-of-length-le}
 use lib.Seq.{take-at, take-all, drop-at, drop-drop}
+use borrow.Author.Tests.{lt-ltb}
 use Rattle.model.specs.declared.Reply.{Reply}
 use Rattle.model.specs.Sets.{tab, ones, memb, upto, image}
-use Rattle.model.specs.Tree.{sizeOf}
+use Rattle.model.specs.Tree.{treeOf, sizeOf}
 use Rattle.model.specs.QueryTable.{lastOf}
 use Rattle.model.specs.Results.{related, imageBytes, cell, pairsBytes}
 use Rattle.model.specs.Refusals.{written}
@@ -19,6 +21,40 @@ use Rattle.model.proofs.Refusals.{written-over}
 use Rattle.sets.specs.NodeSets.{only}
 use Rattle.sets.proofs.Images.{memb-upto, image-one, image-from}
 use Rattle.eval.specs.Evaluation.{reached}
+use Rattle.tree.specs.Links.{PreviousSiblings}
+use Rattle.checks.specs.Tables.{Tables}
+use Rattle.bits.specs.BitTables.{bitCell, bitTable, byteTable, bitRelation, unpacked}
+use Rattle.bits.specs.Rows.{Becomes}
+use Rattle.bits.proofs.Rows.{of-words}
+use Rattle.packing.proofs.Rows.{cell-row}
+use Rattle.packing.proofs.RoundTrip.{byte-cong}
+use Rattle.relations.specs.Services.{pairsWords}
+use Rattle.relations.proofs.Services.{tables-five}
+use Rattle.engines.specs.Engines.{Suits}
+
+-- either engine can evaluate an accepted query
+pub suits : (t prev q nodes : List ℕ) → Tables t q nodes → PreviousSiblings (treeOf t) (sizeOf t) prev → Suits t prev q nodes (lastOf q) true
+suits t prev q nodes a p = record {
+  ready = record { linked = record { tree = a .tree; siblings = p }; query = a .query };
+  kinds = record { within = a .last; sort = a .path };
+  few = omega (arith, a .shaped .few);
+  five = tables-five t q nodes a;
+}
+
+-- the table of bits at the front of the words, unpacked
+pub pairs-unpacked : (t q nodes o words to after : List ℕ) → after ≡ unpacked (sizeOf t) words ++ drop (sizeOf t * sizeOf t) to
+    → words ≡ pairsWords t q nodes ++ drop (4 * sizeOf t) o → 4 * sizeOf t ≤ length o → sizeOf t ≤ 256 → after ≡ pairsBytes t q nodes ++ drop (sizeOf t * sizeOf t) to
+unfolding pairsWords bitTable byteTable pairsBytes upto
+pairs-unpacked t q nodes o words to after p w room fits = p ∙ ap (λ (l : List ℕ). l ++ drop (n * n) to) (byte-cong n fits (bitRelation words) R (λ x y a b. table .bits x y a (omega arith) ∙ rw (lt-ltb y n b)))
+  where
+    n : ℕ
+    n = sizeOf t
+
+    R : ℕ → ℕ → Bool
+    R = related t q nodes (lastOf q) false
+
+    table : Becomes n (λ x. upto n (R x)) o words
+    table = of-words n (λ x. upto n (R x)) (bitCell n R) o words w room (λ x y a b. cell-row n R x y b)
 
 -- the front of a buffer
 

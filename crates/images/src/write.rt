@@ -1,15 +1,13 @@
-// What an accepted evaluation writes over the front of a buffer.
+// What an accepted evaluation writes over the front of a buffer: an image by the engine that the query's nesting asks for, all pairs by the
+// one over bits.
 ghost use mathlib.Core.Path.{_≡_};
-ghost use mathlib.Core.Bool.{false};
 ghost use mathlib.Core.List.{_++_};
-ghost use Prim.Native.Nat.{_+_, _-_, _*_, _/_, _≤_, _<_};
-ghost use lib.ListN.{length, take, drop};
-ghost use Rattle.model.specs.Sets.{tab, ones, memb, upto};
+ghost use Prim.Native.Nat.{_*_, _≤_};
+ghost use lib.ListN.{length, drop};
+ghost use Rattle.model.specs.Sets.{ones};
 ghost use Rattle.model.specs.Tree.{sizeOf};
-ghost use Rattle.model.specs.QueryTable.{lastOf};
-ghost use Rattle.model.specs.Results.{related, imageBytes, pairsBytes};
-ghost use Rattle.steps.specs.Moves.{Linked};
-ghost use Rattle.images.specs.Tables.{Tables};
+ghost use Rattle.model.specs.Results.{imageBytes, pairsBytes};
+ghost use Rattle.checks.specs.Tables.{Tables};
 
 // The image of a node set under the query, or under its converse where back is set, and how many nodes it has.
 pub fn image_into(
@@ -33,13 +31,15 @@ pub fn image_into(
         ⌝ }
 {
     let s = sets::load(from);
+    let whole = nesting::nests(query);
     let prev = tree::previous_siblings(tree);
     let mut count = 0;
-    let r = eval::path(
+    let r = engines::image(
         tree,
         &prev,
         query,
         nodes,
+        whole,
         query.len() / 4 - 1,
         back,
         s,
@@ -49,44 +49,7 @@ pub fn image_into(
     count
 }
 
-// The first n bytes from a place on become the set's; the others stay.
-fn put_row(table: &mut [u8], r: [u8; 256], at: usize, n: usize)
-    requires { ⌜ (n ≤ 256) × (at + n ≤ length (now table)) ⌝ }
-    ensures { λ _.
-        ⌜
-        now (table .exit)
-        ≡ take at (now (table .entry)) ++ (tab n (memb r) ++ drop n (drop at (now (table .entry))))
-        ⌝ }
-{
-    sets::put(&mut table[at..], r, n);
-}
-
-// The nodes that x alone reaches by the query.
-fn row(tree: &[u16], prev: &[u16], query: &[u16], nodes: &[u16], x: usize) -> [u8; 256]
-    requires { ⌜ Tables (now tree) (now query) (now nodes) × (Linked (now tree) (now prev) × (x < sizeOf (now tree))) ⌝ }
-    ensures { λ r.
-        ⌜
-        r
-        ≡ tab 256 (upto (sizeOf (now (tree .entry)))
-        (related (now (tree .entry)) (now (query .entry)) (now (nodes .entry)) (lastOf (now (query .entry))) false x))
-        ⌝ }
-{
-    let s = sets::single(x);
-    let mut count = 0;
-    eval::path(
-        tree,
-        prev,
-        query,
-        nodes,
-        query.len() / 4 - 1,
-        false,
-        s,
-        &mut count,
-    )
-}
-
-// All pairs of the query, row after row. A row's start is carried along by adding n, so that no product finds a place: there are
-// terminals that multiply slowly. One evaluation for each node.
+// All pairs of the query: the table of bits, made in an array of this function, and unpacked row after row.
 pub fn pairs_into(tree: &[u16], query: &[u16], nodes: &[u16], table: &mut [u8])
     requires { ⌜ Tables (now tree) (now query) (now nodes) × (sizeOf (now tree) * sizeOf (now tree) ≤ length (now table)) ⌝ }
     ensures { λ _.
@@ -97,13 +60,7 @@ pub fn pairs_into(tree: &[u16], query: &[u16], nodes: &[u16], table: &mut [u8])
         ⌝ }
 {
     let n = tree.len() / 2;
-    let prev = tree::previous_siblings(tree);
-    let mut at = 0;
-    let mut x = 0;
-    while x < n {
-        let r = row(tree, &prev, query, nodes, x);
-        put_row(table, r, at, n);
-        at += n;
-        x += 1;
-    }
+    let mut words = [0u64; 1024];
+    relations::write::pairs_into(tree, query, nodes, &mut words);
+    packing::convert::unpack_into(n, &words, table);
 }

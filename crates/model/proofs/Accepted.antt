@@ -16,7 +16,7 @@ use Rattle.model.specs.Axes.{self, ancestor, descendant, following, prec
 use Rattle.model.specs.QueryTable.{entriesOf, kind, left, right, tag, entry, lastOf}
 use Rattle.model.specs.Refusals.{verdict}
 use Rattle.model.specs.Kinds.{isPath, leftPath, leftExpr, rightPath, rightExpr, namesVariable, hasLeft, hasRight}
-use Rattle.model.specs.Checks.{badParent, badTag, treeChecksAt, treeChecks, badStep, badVariable, badUnnamed, badEntry, queryChecks}
+use Rattle.model.specs.Checks.{badParent, badTag, treeChecksAt, treeChecks, badStep, badVariable, badUnnamed, badEntry, uses, misused, queryChecks}
 use Rattle.model.specs.Accepted.{Falling, Sound, Ordered, Formed, Shaped, Evaluable}
 use Rattle.model.proofs.Booleans.{Seen, seen, no-yes, both-yes, or-left, or-right, or-cases, not-yes, no-or, guarded}
 use Rattle.model.proofs.Booleans.Seen.{yes!, no! }
@@ -183,6 +183,11 @@ module _ (q : List ℕ) (least columns : ℕ) (b : Passes (queryChecks q least c
 
   pub query-shaped : Shaped q
   query-shaped = record { few = few-entries; formed = query-formed }
+
+  -- each of its entries but the last is used once
+  pub query-once : (i : ℕ) → i < lastOf q → uses q i (entriesOf q) ≡ 1
+  unfolding queryChecks Passes
+  query-once i l = eqb-true (uses q i (entriesOf q)) 1 (not-false (eqb (uses q i (entriesOf q)) 1) (none-of (lastOf q) (misused q) i (b .1 .1 .1 .1 .1 .1 .0) l))
 
   -- and can be evaluated under any assignment to nodes
   pub query-evaluable : (t nodes : List ℕ) → length nodes ≡ columns → ((k : ℕ) → k < length nodes → getD nodes k 0 < sizeOf t) → Evaluable t q nodes

@@ -10,7 +10,7 @@ pub mod Axes
 pub mod Closure
 pub mod Meaning
 pub mod QueryTable
-pub mod Shaped
+pub mod Formed
 pub mod Encoding
 pub mod Accepted
 pub mod Parties

@@ -10,8 +10,8 @@ use Rattle.model.specs.Kinds.{isPath}
 use Rattle.model.specs.Accepted.{Shaped}
 use Rattle.model.specs.Sharing.{pathBreaks, exprBreaks, breaks, Unshared, UnsharedExpr}
 use Rattle.model.proofs.Exists.{none-of}
-use Rattle.model.proofs.Shaped.{PathBefore, ExprBefore, Read, sort-of, BySort, as-path, as-expr, by-sort}
-use Rattle.model.proofs.Shaped.Read.{step!, compose!, union!, intersect!, except!, filter!, variable!, root!, exists!, negate!, both!, either!, is!, closure!, same! }
+use Rattle.model.proofs.Formed.{PathBefore, ExprBefore, Read, sort-of, BySort, as-path, as-expr, by-sort}
+use Rattle.model.proofs.Formed.Read.{step!, compose!, union!, intersect!, except!, filter!, variable!, root!, exists!, negate!, both!, either!, is!, closure!, same! }
 
 module _ (q : List ℕ) (none : any (entriesOf q) (breaks q) ≡ false) where
   abbrev P : ℕ → Type 0
@@ -56,4 +56,4 @@ module _ (q : List ℕ) (none : any (entriesOf q) (breaks q) ≡ false) where
 
 -- every path of the query keeps the rule
 pub query-unshared : (q : List ℕ) → Shaped q → any (entriesOf q) (breaks q) ≡ false → (e : ℕ) → e < entriesOf q → isPath (kind q e) ≡ true → Unshared (pathAt q e)
-query-unshared q shape none e l h = by-sort q (P q none) (E q none) shape (keeps q none) e l .0 h
+query-unshared q shape none e l h = by-sort q (P q none) (E q none) (shape .formed) (keeps q none) e l .0 h

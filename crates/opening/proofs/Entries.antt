@@ -14,7 +14,7 @@ use Rattle.model.specs.Accepted.{Shaped}
 use Rattle.model.proofs.Booleans.{Seen, seen, yes-left, yes-right, or-cases, guarded}
 use Rattle.model.proofs.Booleans.Seen.{yes!, no! }
 use Rattle.model.proofs.KindTests.{names-variable-by}
-use Rattle.model.proofs.Shaped.{left-lower, right-lower}
+use Rattle.model.proofs.Formed.{left-lower, right-lower}
 use Rattle.opening.specs.Opening.{standIn, moved, movedEntry, openedEntry, nodeStep, Narrow}
 
 -- g stands for f: for a path that is a variable not filled, for a node expression that names one, or for an entry that only moves
@@ -64,8 +64,8 @@ opened-narrow q i e f g pg pf ok within ll lr lt = rw (pg, pf) (go (stands i (en
     go (expr! k l p) = rw p (record { kind = omega arith; left = omega arith; right = omega arith; tag = omega arith })
     go (moved! l p) = rw p (record {
       kind = omega (arith, ok .formed .known e within);
-      left = narrow-moved (hasLeft (kind q e)) (left q e) (rw pf at ll) (λ h. omega (arith, left-lower q ok e within h, ok .few));
-      right = narrow-moved (hasRight (kind q e)) (right q e) (rw pf at lr) (λ h. omega (arith, right-lower q ok e within h, ok .few));
+      left = narrow-moved (hasLeft (kind q e)) (left q e) (rw pf at ll) (λ h. omega (arith, left-lower q (ok .formed) e within h, ok .few));
+      right = narrow-moved (hasRight (kind q e)) (right q e) (rw pf at lr) (λ h. omega (arith, right-lower q (ok .formed) e within h, ok .few));
       tag = lt;
     })
 

@@ -1,3 +1,4 @@
 pub mod Entries
 pub mod Filling
 pub mod Opened
+pub mod Aside

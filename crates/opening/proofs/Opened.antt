@@ -19,8 +19,8 @@ use Rattle.model.specs.Sharing.{anyNode, everywhere, opened, openedExpr, unfill
 use Rattle.model.proofs.Booleans.{Seen, seen, no-yes, or-left, or-right}
 use Rattle.model.proofs.Booleans.Seen.{yes!, no! }
 use Rattle.model.proofs.QueryTable.{at-step, at-compose, at-union, at-intersect, at-except, at-filter, at-variable, at-root, at-exists, at-negate, at-both, at-either, at-is, at-closure, at-same}
-use Rattle.model.proofs.Shaped.{PathBefore, ExprBefore, Read, sort-of, BySort, as-path, as-expr, by-sort}
-use Rattle.model.proofs.Shaped.Read.{step!, compose!, union!, intersect!, except!, filter!, variable!, root!, exists!, negate!, both!, either!, is!, closure!, same! }
+use Rattle.model.proofs.Formed.{PathBefore, ExprBefore, Read, sort-of, BySort, as-path, as-expr, by-sort}
+use Rattle.model.proofs.Formed.Read.{step!, compose!, union!, intersect!, except!, filter!, variable!, root!, exists!, negate!, both!, either!, is!, closure!, same! }
 use Rattle.opening.specs.Opening.{nodeStep, standIn, movedEntry, openedEntry, Opens, openedTable}
 use Rattle.opening.proofs.Entries.{Stands, stands, named-leaf}
 use Rattle.opening.proofs.Entries.Stands.{path!, expr!, moved! }
@@ -34,6 +34,10 @@ module _ (q : List ℕ) (i : ℕ) (r : List ℕ) (ok : Shaped q) (o : Opens q i 
 
   pub opened-entries : entriesOf T ≡ entriesOf q + 2
   opened-entries = omega (arith, long)
+
+  -- for the reader: the opened table has at most 66 entries
+  pub opened-few : entriesOf T ≤ 66
+  opened-few = omega (arith, opened-entries, ok .few)
 
   pub opened-last : 0 < entriesOf q → lastOf T ≡ 2 + lastOf q
   opened-last some = omega (arith, opened-entries)
@@ -71,6 +75,25 @@ module _ (q : List ℕ) (i : ℕ) (r : List ℕ) (ok : Shaped q) (o : Opens q i 
 
   pub opened-sort : (e : ℕ) → e < entriesOf q → {b : Bool} → isPath (kind q e) ≡ b → isPath (kind T (2 + e)) ≡ b
   opened-sort e l h = same-sort e l ∙ h
+
+  -- a variable that it names is one that the query names
+  pub opened-named : (m : ℕ) → ((e : ℕ) → e < entriesOf q → namesVariable (kind q e) ≡ true → left q e < m)
+      → (e : ℕ) → e < entriesOf T → namesVariable (kind T e) ≡ true → left T e < m
+  unfolding movedEntry namesVariable
+  opened-named m named e within = at e (omega (arith, opened-entries))
+    where
+      go : (e : ℕ) → e < entriesOf q → Stands i (entry q e) (entry T (2 + e)) → namesVariable (kind T (2 + e)) ≡ true → left T (2 + e) < m
+      go e l (path! k b p) h = no-yes (ap (λ (f : Entry). namesVariable (f .kind)) p) h
+      go e l (expr! k b p) h = no-yes (ap (λ (f : Entry). namesVariable (f .kind)) p) h
+      go e l (moved! b p) h =
+          let names : namesVariable (kind q e) ≡ true = sym (ap (λ (f : Entry). namesVariable (f .kind)) p) ∙ h in
+          let same : left T (2 + e) ≡ left q e = ap (λ (f : Entry). f .left) p ∙ rw (named-leaf (kind q e) names) in
+          omega (arith, named e l names)
+
+      at : (e : ℕ) → e < entriesOf q + 2 → namesVariable (kind T e) ≡ true → left T e < m
+      at zero l h = no-yes (ap (λ (f : Entry). namesVariable (f .kind)) at-zero) h
+      at (suc zero) l h = no-yes (ap (λ (f : Entry). namesVariable (f .kind)) at-one) h
+      at (suc (suc e)) l h = subst (λ (x : ℕ). namesVariable (kind T x) ≡ true → left T x < m) (let g : 2 + e ≡ suc (suc e) = omega arith in g) (go e (omega arith) (form e (omega arith))) h
 
   -- operands move with their entry
 
@@ -266,4 +289,4 @@ module _ (q : List ℕ) (i : ℕ) (r : List ℕ) (ok : Shaped q) (o : Opens q i 
 
     -- each path of the query stands in the table as that path, opened
     pub opened-path : (e : ℕ) → e < entriesOf q → isPath (kind q e) ≡ true → pathAt T (2 + e) ≡ opened (unfilled i k) (pathAt q e)
-    opened-path e l h = by-sort q PathOpened ExprOpened ok agrees e l .0 h
+    opened-path e l h = by-sort q PathOpened ExprOpened (ok .formed) agrees e l .0 h

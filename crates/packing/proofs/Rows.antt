@@ -4,7 +4,7 @@ use native.Mathlib.Numerals.{add-one}
 use native.Mathlib.Nat.{mul-le-mul-right}
 use native.Mathlib.Omega.{arith}
 use mathlib.Core.Path.{_≡_, refl, sym, ap, _∙_}
-use mathlib.Core.Bool.{Bool, _&&_}
+use mathlib.Core.Bool.{Bool, false, _&&_}
 use mathlib.Core.List.{List, [], _∷_, _++_, append-assoc}
 use lib.ListN.{length, getD, take, drop, set, length-append, length-drop}
 use lib.Seq.{take-at, drop-at, drop-drop, length-take-le, sets-eq, paste-zero}
@@ -13,10 +13,10 @@ use borrow.Author.Tests.{lt-ltb, le-ltb}
 use Rattle.model.specs.Sets.{bit, tab, memb, upto}
 use Rattle.model.specs.Results.{cell}
 use Rattle.model.proofs.Bytes.{tab-cong, tab-snoc, tab-append, length-tab, front-store, cell-at}
-use Rattle.sets.specs.NodeSets.{shifted}
+use Rattle.sets.specs.NodeSets.{always, shifted}
 use Rattle.bits.specs.Words.{testBit, word, words, hasBit}
 use Rattle.bits.specs.BitTables.{bitCell, bitTable, byteTable, bitRelation, byteRelation}
-use Rattle.bits.proofs.Words.{word-cong, word-none, word-short, length-words, words-of, words-cong, words-append, hasBit-at}
+use Rattle.bits.proofs.Words.{word-cong, word-none, word-short, length-words, words-of, words-cong, words-append, hasBit-at, test-none}
 use Rattle.packing.specs.Parts.{rowBit, rowPart}
 
 -- one bit more of a word
@@ -144,9 +144,24 @@ module _ (S : ℕ → Bool) (d : List ℕ) (at : ℕ) where
   unfolding part
   part-done l y n p a b = p ∙ ap (λ (k : ℕ). take at d ++ tab k S ++ drop (at + k) d) (let e : y ≡ n = omega arith in e)
 
--- the bit that a test reads
-pub test-row : (w : List ℕ) (i y : ℕ) (b : Bool) → b ≡ testBit (getD w (i + y / 64) 0) (y % 64) → b ≡ rowBit w i y
-test-row w i y b p = p ∙ sym (ap (hasBit w) (let e : 64 * i + y ≡ 64 * (i + y / 64) + y % 64 = omega arith in e) ∙ hasBit-at w (i + y / 64) (y % 64) (omega arith))
+-- the lowest k bits of word i of a row are written behind those of the words before it
+pub part-word : (w d l l′ : List ℕ) (from at i y k : ℕ) → l′ ≡ take (at + y) l ++ tab k (testBit (getD w i 0)) ++ drop (at + y + k) l → l ≡ part (rowBit w from) d at y
+    → 64 * i ≡ 64 * from + y → k ≤ 64 → at + y ≤ length d → l′ ≡ part (rowBit w from) d at (y + k)
+unfolding part
+part-word w d l l′ from at i y k p q e small h =
+    part-over (at + y) k (take at d ++ tab y S) (tab k (testBit (getD w i 0))) d l l′ p q (length-append (take at d) (tab y S) ∙ rw (length-take-le at d (omega arith), length-tab y S))
+    ∙ ap (λ (m : List ℕ). m ++ drop (at + y + k) d) (append-assoc (take at d) (tab y S) (tab k (testBit (getD w i 0))) ∙ ap (λ (m : List ℕ). take at d ++ m) (ap (λ (m : List ℕ). tab y S ++ m) (tab-cong k _ _ read) ∙ sym (tab-append y k S)))
+    ∙ ap (λ (j : ℕ). take at d ++ tab (y + k) S ++ drop j d) (let g : at + y + k ≡ at + (y + k) = omega arith in g)
+  where
+    S : ℕ → Bool
+    S = rowBit w from
+
+    read : (j : ℕ) → j < k → testBit (getD w i 0) j ≡ rowBit w from (y + j)
+    read j lt = sym (ap (hasBit w) (let g : 64 * from + (y + j) ≡ 64 * i + j = omega arith in g) ∙ hasBit-at w i j (omega arith))
+
+-- no bit of 0 is set
+pub cleared : (w k : ℕ) (a b l : List ℕ) → l ≡ a ++ tab k (always false) ++ b → w ≡ 0 → l ≡ a ++ tab k (testBit w) ++ b
+cleared w k a b l p e = p ∙ ap (λ (m : List ℕ). a ++ m ++ b) (tab-cong k (always false) (testBit w) (λ i h. sym (ap (λ (v : ℕ). testBit v i) e ∙ test-none i)))
 
 -- row x of a table of bits is written as a row of bytes behind those before it
 pub bytes-more : (n x at i : ℕ) (w o l l′ : List ℕ) → l′ ≡ take at l ++ tab n (rowBit w i) ++ drop (at + n) l → l ≡ tab at (cell n (bitRelation w)) ++ drop at o

@@ -70,8 +70,8 @@ bits-accepted n w room r p z =
 pub pack-ready : (n : ℕ) (b : List ℕ) (room : ℕ) (r : Reply) → r ≡ verdict (packChecks n b room) → r .number ≡ 0 → (n ≤ 256) × ((length b ≡ n * n) × (4 * n ≤ room))
 pack-ready n b room r p z = let a = bytes-accepted n b room r p z in (size-small n (badSize n) refl (a .size), (a .long, a .fits))
 
-pub unpack-ready : (n : ℕ) (w : List ℕ) (room : ℕ) (r : Reply) → r ≡ verdict (unpackChecks n w room) → r .number ≡ 0 → (n ≤ 256) × ((length w ≡ 4 * n) × (n * n ≤ room))
-unpack-ready n w room r p z = let a = bits-accepted n w room r p z in (size-small n (badSize n) refl (a .size), (a .long, a .fits))
+pub unpack-ready : (n : ℕ) (w : List ℕ) (room : ℕ) (r : Reply) → r ≡ verdict (unpackChecks n w room) → r .number ≡ 0 → (n ≤ 256) × ((4 * n ≤ length w) × (n * n ≤ room))
+unpack-ready n w room r p z = let a = bits-accepted n w room r p z in (size-small n (badSize n) refl (a .size), (let e = a .long in omega arith, a .fits))
 
 -- the buffer
 

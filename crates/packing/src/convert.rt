@@ -1,12 +1,13 @@
 // What an accepted conversion writes over the front of a buffer, row after row. The starts of a row in the bytes and in the words are
 // carried along by adding n and 4, so that no product finds them.
 ghost use mathlib.Core.Path.{_≡_};
+ghost use mathlib.Core.Bool.{false};
 ghost use mathlib.Core.List.{_++_};
 ghost use Prim.Native.Nat.{_+_, _*_, _≤_, _<_};
 ghost use lib.ListN.{length, take, drop};
 ghost use Rattle.model.specs.Sets.{bit, tab, upto};
-ghost use Rattle.sets.specs.NodeSets.{shifted};
-ghost use Rattle.bits.specs.Words.{word, words};
+ghost use Rattle.sets.specs.NodeSets.{always, shifted};
+ghost use Rattle.bits.specs.Words.{testBit, word, words};
 ghost use Rattle.bits.specs.BitTables.{packed, unpacked};
 ghost use Rattle.packing.specs.Parts.{rowBit, rowPart};
 
@@ -86,8 +87,57 @@ pub fn pack_into(n: usize, bytes: &[u8], words: &mut [u64])
     }
 }
 
+// So many bytes from a place on become 0; the others stay.
+fn clear(bytes: &mut [u8], at: usize, count: usize)
+    requires { ⌜ at + count ≤ length (now bytes) ⌝ }
+    ensures { λ _.
+        ⌜
+        now (bytes .exit)
+        ≡ take at (now (bytes .entry)) ++ tab count (always false) ++ drop (at + count) (now (bytes .entry))
+        ⌝ }
+{
+    let mut k = 0;
+    while k < count {
+        bytes[at + k] = 0;
+        k += 1;
+    }
+}
+
+// The lowest `count` bits of a word become the bytes from a place on; the others stay.
+fn spread(w: u64, count: usize, bytes: &mut [u8], at: usize)
+    requires { ⌜ (count ≤ 64) × (at + count ≤ length (now bytes)) ⌝ }
+    ensures { λ _.
+        ⌜
+        now (bytes .exit)
+        ≡ take at (now (bytes .entry)) ++ tab count (testBit w) ++ drop (at + count) (now (bytes .entry))
+        ⌝ }
+{
+    let mut k = 0;
+    while k < count {
+        let b = sets::byte(bits::test(w, k));
+        bytes[at + k] = b;
+        k += 1;
+    }
+}
+
+// The same, in one go where no bit is set: most words of most tables are 0.
+fn unpack_word(w: u64, count: usize, bytes: &mut [u8], at: usize)
+    requires { ⌜ (count ≤ 64) × (at + count ≤ length (now bytes)) ⌝ }
+    ensures { λ _.
+        ⌜
+        now (bytes .exit)
+        ≡ take at (now (bytes .entry)) ++ tab count (testBit w) ++ drop (at + count) (now (bytes .entry))
+        ⌝ }
+{
+    if w == 0 {
+        clear(bytes, at, count);
+        return;
+    }
+    spread(w, count, bytes, at);
+}
+
 // The first n bits of the row that begins at word `from` become the bytes from a place on; the others stay.
-fn unpack_row(words: &[u64], from: usize, n: usize, bytes: &mut [u8], at: usize)
+pub fn unpack_row(words: &[u64], from: usize, n: usize, bytes: &mut [u8], at: usize)
     requires { ⌜ (n ≤ 256) × ((from + 4 ≤ length (now words)) × (at + n ≤ length (now bytes))) ⌝ }
     ensures { λ _.
         ⌜
@@ -95,17 +145,23 @@ fn unpack_row(words: &[u64], from: usize, n: usize, bytes: &mut [u8], at: usize)
         ≡ take at (now (bytes .entry)) ++ tab n (rowBit (now (words .entry)) from) ++ drop (at + n) (now (bytes .entry))
         ⌝ }
 {
+    let mut i = from;
     let mut y = 0;
-    while y < n {
-        let b = sets::byte(bits::test(words[from + y / 64], y % 64));
-        bytes[at + y] = b;
-        y += 1;
+    while y + 64 <= n {
+        unpack_word(words[i], 64, bytes, at + y);
+        i += 1;
+        y += 64;
     }
+    let left = n - y;
+    if left == 0 {
+        return;
+    }
+    unpack_word(words[i], left, bytes, at + y);
 }
 
 // The rows of a table of bits become rows of bytes.
 pub fn unpack_into(n: usize, words: &[u64], bytes: &mut [u8])
-    requires { ⌜ (n ≤ 256) × ((length (now words) ≡ 4 * n) × (n * n ≤ length (now bytes))) ⌝ }
+    requires { ⌜ (n ≤ 256) × ((4 * n ≤ length (now words)) × (n * n ≤ length (now bytes))) ⌝ }
     ensures { λ _. ⌜ now (bytes .exit) ≡ unpacked n (now (words .entry)) ++ drop (n * n) (now (bytes .entry)) ⌝ }
 {
     let mut at = 0;

@@ -1,6 +1,6 @@
 // A relation's table of bytes as its table of bits, and back. Neither service has a precondition: what is malformed is refused, and
 // then the buffer is left as it was.
-mod convert;
+pub mod convert;
 mod refusal;
 
 ghost use Rattle.packing.specs.Services.{PackLeaves, UnpackLeaves};

@@ -33,8 +33,8 @@ fn image(
     images::image(&table[..count], query, columns, nodes, back, from, to)
 }
 
-// The nodes that a set reaches by the query, and how many they are. One evaluation: O(entries × n) for a query without intersect and
-// except.
+// The nodes that a set reaches by the query, and how many they are. One evaluation: O(entries × n) for a query without intersect, except,
+// star and `same`, up to n times that where it has some that do not nest, and else what pairs in bits cost.
 pub fn forwards(
     tree: &[u16],
     party: u16,
@@ -74,7 +74,7 @@ pub fn backwards(
     image(tree, party, query, columns, nodes, true, from, to)
 }
 
-// All pairs of the query: (x, y) stands at x × n + y. One evaluation for each of the n start nodes.
+// All pairs of the query: (x, y) stands at x × n + y. As pairs in bits, and one pass over the n × n bytes.
 pub fn pairs(
     tree: &[u16],
     party: u16,
@@ -100,7 +100,8 @@ pub fn pairs(
     images::pairs(&table[..count], query, columns, nodes, to)
 }
 
-// All pairs of the query, a bit a pair, by the second engine.
+// All pairs of the query, a bit a pair, by the engine over whole tables: at most about one composition of two tables an entry
+// (relations::pairs).
 pub fn pairs_bits(
     tree: &[u16],
     party: u16,

@@ -25,7 +25,7 @@ use Rattle.model.proofs.Quick.{quick-accepts, quick-plain, quick-refused}
 use Rattle.checks.proofs.Verdicts.{zero-of, listing-numbered, stop-both, pass-both}
 use Rattle.tree.specs.Links.{PreviousSiblings}
 use Rattle.answers.specs.declared.Paged.{Paged}
-use Rattle.answers.proofs.Accepted.{page-tree, page-cursor, page-searchable}
+use Rattle.answers.proofs.Accepted.{page-tree, page-cursor, page-listed}
 use Rattle.quick.specs.declared.Quick.{Quick}
 use Rattle.quick.specs.Effort.{effort}
 use Rattle.quick.specs.Search.{Ready}
@@ -77,24 +77,19 @@ module _ (t q : List ℕ) (columns : ℕ) (c : Cursor) (room : ℕ) (v : Reply) 
   pub quick-cursor : hasBegun c ≡ true → Below (sizeOf t) (rowOf columns c)
   quick-cursor = page-cursor t q columns c room (verdict (pageChecks t q columns c room)) refl page-zero
 
-  passing : Passes (queryChecks q 1 columns) × Passes (sharingChecks q)
+  keeps-rule : Passes (sharingChecks q)
   unfolding quickChecks
-  passing =
+  keeps-rule =
       let later = cursorChecks t columns c ++ roomChecks room columns in
       let a = Passes-front (treeChecks t) (queryChecks q 1 columns ++ (sharingChecks q ++ later)) (tree-numbered t) (zero-of (quickChecks t q columns c room) v p z) in
       let b = Passes-front (queryChecks q 1 columns) (sharingChecks q ++ later) (query-numbered q 1 columns) (a .1) in
-      (b .0, Passes-front (sharingChecks q) later (sharing-numbered q) (b .1) .0)
+      Passes-front (sharingChecks q) later (sharing-numbered q) (b .1) .0
 
   pub quick-ready : (prev : List ℕ) → PreviousSiblings (treeOf t) (sizeOf t) prev → Ready t prev q columns
   unfolding sharingChecks Passes
   quick-ready prev linked =
-      let s = page-searchable t q columns c room (verdict (pageChecks t q columns c room)) refl page-zero prev linked in
-      let shape : Shaped q = query-shaped q 1 columns (passing .0) in
-      record {
-        searchable = s;
-        shaped = shape;
-        rule = query-unshared q shape (passing .1 .0) (lastOf q) (s .path .within) (s .path .sort);
-      }
+      let l = page-listed t q columns c room (verdict (pageChecks t q columns c room)) refl page-zero prev linked in
+      record { listed = l; rule = query-unshared q (l .shaped) (keeps-rule .0) (lastOf q) (l .searchable .path .within) (l .searchable .path .sort) }
 
 -- What a call leaves.
 

@@ -14,7 +14,8 @@ use Rattle.quick.specs.declared.Found.{Found}
 use Rattle.quick.specs.Effort.{descended}
 use Rattle.quick.specs.Search.{Ready, Answer, Nodes, Same, Before, goesOn, Lowest, Tries, Begins, First, FirstFrom}
 use Rattle.quick.proofs.Rows.{before-step}
-use Rattle.quick.proofs.Opened.{few, long}
+use Rattle.answers.proofs.Opened.{long}
+use Rattle.quick.proofs.Opened.{few}
 use Rattle.quick.proofs.Search.{set-at, set-off, set-nodes, lowest-least, lowest-begins, levels-more, levels-few}
 use Rattle.quick.proofs.Effort.{descended-none, filled-more, filled-done}
 
@@ -84,7 +85,7 @@ module _ {t prev q : List ℕ} {k : ℕ} (ok : Ready t prev q k) (i : ℕ) (row 
     where
       whole : f .begins .one ≡ take k at
       whole =
-          ext-getD 0 (f .begins .one) (take k at) (f .begins .answer .0 ∙ sym (long ok at (f .long)))
+          ext-getD 0 (f .begins .one) (take k at) (f .begins .answer .0 ∙ sym (long (ok .listed) at (f .long)))
           (λ m l. f .begins .same m (omega (arith, f .begins .answer .0)) ∙ sym (getD-take k at m 0 (omega (arith, f .begins .answer .0))))
 
 -- The same with the evaluations: e after so many numbers, spent of them before the loop.

@@ -1,6 +1,5 @@
--- The query, opened: as a table it can be searched as the query can, and it has a pair under a row exactly if some answer begins as the
--- numbers of the row that are filled.
-use Prim.Native.Nat.{ℕ, zero, suc, _+_, _*_, _<_, _≤_}
+-- The query, opened: it has a pair under a row exactly if some answer begins as the numbers of the row that are filled.
+use Prim.Native.Nat.{ℕ, zero, suc, _+_, _<_, _≤_}
 use native.Mathlib.Nat.{le-of-suc-le-suc}
 use native.Mathlib.Decide.{decLt}
 use native.Mathlib.Omega.{arith}
@@ -8,27 +7,22 @@ use mathlib.Core.Path.{_≡_, refl, sym, ap, _∙_, subst, fun-ext}
 use mathlib.Core.Bool.{Bool, true, false, not}
 use mathlib.Core.List.{List, [], _∷_}
 use lib.Dec.{ltb}
-use lib.ListN.{length, take, getD, set, replicate, length-replicate, getD-replicate, List·getD-eq-default}
-use lib.Seq.{length-take-le, getD-take}
-use borrow.Author.Tests.{lt-ltb, le-ltb, ltb-true}
+use lib.ListN.{length, take, getD, set}
+use lib.Seq.{getD-take}
+use borrow.Author.Tests.{lt-ltb, ltb-true}
 use Rattle.model.specs.Tree.{treeOf, sizeOf}
-use Rattle.model.specs.QueryTable.{entriesOf, kind, left, pathAt, lastOf}
-use Rattle.model.specs.Kinds.{namesVariable}
+use Rattle.model.specs.QueryTable.{pathAt, lastOf}
 use Rattle.model.specs.Results.{assigned, related}
 use Rattle.model.specs.Answers.{Row, satisfied}
 use Rattle.model.specs.Accepted.{Sound}
-use Rattle.model.specs.Sharing.{opened, unfilled, hasPair, Fills}
-use Rattle.model.proofs.Booleans.{Seen, yes!, no!, seen, no-yes, not-yes, yes-right}
+use Rattle.model.specs.Sharing.{unfilled, hasPair, Fills}
+use Rattle.model.proofs.Booleans.{Seen, yes!, no!, seen, not-yes, yes-right}
 use Rattle.model.proofs.Exactness.{exact}
 use Rattle.model.proofs.Sharing.{opened-none}
 use Rattle.opening.specs.Opening.{Opens, openedTable}
-use Rattle.opening.proofs.Opened.{opened-last, opened-sort, opened-entries, opened-evaluable, opened-path}
-use Rattle.answers.specs.Search.{Searchable}
-use Rattle.quick.specs.Search.{Ready, Answer, Nodes, Same, passes, satisfiedOpen, goesOn, Lowest, Begins}
-
-is-assigned : (r : List ℕ) (j : ℕ) → assigned r j ≡ getD r j 0
-unfolding assigned
-is-assigned r j = refl
+use Rattle.answers.specs.Search.{satisfiedOpen}
+use Rattle.answers.proofs.Opened.{is-assigned, opened-satisfied, beyond, row-fills}
+use Rattle.quick.specs.Search.{Ready, Answer, Nodes, Same, passes, goesOn, Lowest, Begins}
 
 -- the row of an assignment, for k variables
 abbrev rowFrom : ℕ → (ℕ → ℕ) → Row
@@ -46,45 +40,15 @@ row-at (suc k) g (suc j) l = row-at k (λ j. g (suc j)) j (le-of-suc-le-suc l)
 
 module _ {t prev q : List ℕ} {k : ℕ} (ok : Ready t prev q k) where
   sound : Sound (treeOf t)
-  sound = ok .searchable .linked .tree .sound
+  sound = ok .listed .searchable .linked .tree .sound
 
   pub few : k ≤ 3
-  few = ok .searchable .most
-
-  -- every variable that is named is one of the k
-  named : (e : ℕ) → e < entriesOf q → namesVariable (kind q e) ≡ true → left q e < k
-  named e l h =
-      let zeros : List ℕ = replicate k 0 in
-      let size : length zeros ≡ k = length-replicate {A = ℕ} k 0 in
-      omega (arith, size, ok .searchable .query zeros size (λ j m. rw (getD-replicate {A = ℕ} k j 0 0 (omega arith)) (sound .some-node)) .variable e l h)
-
-  -- The table.
-
-  module _ (i : ℕ) (r : List ℕ) (o : Opens q i r) where
-    pub opened-length : 4 * (entriesOf q + 2) ≡ length (openedTable q r)
-    opened-length = sym (length-take-le (4 * (entriesOf q + 2)) r (omega (arith, ok .shaped .few, o .front .size)))
-
-    pub opened-searchable : Searchable t prev (openedTable q r) k
-    opened-searchable =
-        let last : lastOf (openedTable q r) ≡ 2 + lastOf q = opened-last q i r (ok .shaped) o (omega (arith, ok .searchable .path .within)) in
-        record {
-          linked = ok .searchable .linked;
-          path = rw last (record { within = omega (arith, opened-entries q i r (ok .shaped) o, ok .searchable .path .within); sort = opened-sort q i r (ok .shaped) o (lastOf q) (ok .searchable .path .within) (ok .searchable .path .sort) });
-          least = ok .searchable .least;
-          most = ok .searchable .most;
-          query = λ row e b. opened-evaluable q i r (ok .shaped) o t row (ok .searchable .query row e b);
-        }
-
-    pub opened-satisfied : (row : List ℕ) → satisfied t (openedTable q r) (take k row) ≡ satisfiedOpen t q k row i
-    unfolding satisfied related satisfiedOpen
-    opened-satisfied row =
-        let last : lastOf (openedTable q r) ≡ 2 + lastOf q = opened-last q i r (ok .shaped) o (omega (arith, ok .searchable .path .within)) in
-        rw (last, opened-path q i r (ok .shaped) o k named (lastOf q) (ok .searchable .path .within) (ok .searchable .path .sort))
+  few = ok .listed .searchable .most
 
   -- where the variables behind i stand for any node
   pub opened-passes : (i : ℕ) (r row : List ℕ) → Opens q (i + 1) r → passes t (openedTable q r) k row i ≡ goesOn t q k row i
   unfolding passes goesOn
-  opened-passes i r row o = fun-ext (λ v. opened-satisfied (i + 1) r o (set row i v))
+  opened-passes i r row o = fun-ext (λ v. opened-satisfied (ok .listed) (i + 1) r o (set row i v))
 
   -- The meaning.
 
@@ -99,51 +63,38 @@ module _ {t prev q : List ℕ} {k : ℕ} (ok : Ready t prev q k) where
   no-variable : (i j : ℕ) → k ≤ j → unfilled i k j ≡ false
   no-variable i j l = not-yes (unfilled i k j) (λ h. omega (arith, ltb-true j k (yes-right (not (ltb j i)) (ltb j k) h)))
 
-  module _ (w : List ℕ) (three : length w ≡ 3) where
-    pub long : length (take k w) ≡ k
-    long = length-take-le k w (omega (arith, few))
+  module _ (w : List ℕ) (three : length w ≡ 3) (i : ℕ) where
+    -- an answer that begins as the row
+    pub found : (x : Row) → Answer t q k x → Same i x w → satisfiedOpen t q k w i ≡ true
+    unfolding satisfiedOpen satisfied related
+    found x a s =
+        exact (treeOf t) sound (unfilled i k) (filled-few i) (assigned (take k w)) (pathAt q (lastOf q)) (ok .rule) .1
+        (assigned x, row-fills (ok .listed) w three i x (a .0) (a .1) s, a .2)
 
-    -- beyond the k variables every row of k numbers has the same default
-    pub beyond : (x : List ℕ) → length x ≡ k → (j : ℕ) → k ≤ j → getD x j 0 ≡ getD (take k w) j 0
-    beyond x e j l = List·getD-eq-default x 0 (omega arith) ∙ sym (List·getD-eq-default (take k w) 0 (omega (arith, long)))
+    -- where the opened query has a pair, some answer begins as the row
+    pub hit : i ≤ k → Nodes (sizeOf t) k w → satisfiedOpen t q k w i ≡ true → Begins t q k i w
+    unfolding satisfiedOpen satisfied related
+    hit within nodes h =
+        let (g, f, c) = exact (treeOf t) sound (unfilled i k) (filled-few i) (assigned (take k w)) (pathAt q (lastOf q)) (ok .rule) .0 h in
+        record {
+          one = rowFrom k g;
+          answer = (row-long k g, λ j l. below g f j (omega (arith, row-long k g)), subst (λ (a : ℕ → ℕ). hasPair (treeOf t) a (pathAt q (lastOf q)) ≡ true) (sym (same g f)) c);
+          same = λ j l. row-at k g j (omega arith) ∙ f .kept j (is-filled i j l) ∙ is-assigned (take k w) j ∙ getD-take k w j 0 (omega arith);
+        }
+      where
+        go : (g : ℕ → ℕ) → Fills (sizeOf t) (unfilled i k) (assigned (take k w)) g → (j : ℕ) → Dec (j < k) → assigned (rowFrom k g) j ≡ g j
+        go g f j (yes l) = is-assigned (rowFrom k g) j ∙ row-at k g j l
+        go g f j (no l) = is-assigned (rowFrom k g) j ∙ beyond (ok .listed) w three (rowFrom k g) (row-long k g) j (omega arith) ∙ sym (f .kept j (no-variable i j (omega arith)) ∙ is-assigned (take k w) j)
 
-    module _ (i : ℕ) where
-      -- an answer that begins as the row
-      pub found : (x : Row) → Answer t q k x → Same i x w → satisfiedOpen t q k w i ≡ true
-      unfolding satisfiedOpen satisfied related
-      found x a s =
-          exact (treeOf t) sound (unfilled i k) (filled-few i) (assigned (take k w)) (pathAt q (lastOf q)) (ok .rule) .1
-          (assigned x, record { kept = λ j h. kept j h (decLt j i) (decLt j k); node = λ j h. rw (is-assigned x j) (a .1 j (omega (arith, a .0, ltb-true j k (yes-right (not (ltb j i)) (ltb j k) h)))) }, a .2)
-        where
-          kept : (j : ℕ) → unfilled i k j ≡ false → Dec (j < i) → Dec (j < k) → assigned x j ≡ assigned (take k w) j
-          kept j h (yes l) (yes m) = is-assigned x j ∙ s j l ∙ sym (is-assigned (take k w) j ∙ getD-take k w j 0 m)
-          kept j h (no l) (yes m) = no-yes h (rw (le-ltb j i (omega arith), lt-ltb j k m))
-          kept j h d (no m) = is-assigned x j ∙ beyond x (a .0) j (omega arith) ∙ sym (is-assigned (take k w) j)
+        same : (g : ℕ → ℕ) → Fills (sizeOf t) (unfilled i k) (assigned (take k w)) g → assigned (rowFrom k g) ≡ g
+        same g f = fun-ext (λ j. go g f j (decLt j k))
 
-      -- where the opened query has a pair, some answer begins as the row
-      pub hit : i ≤ k → Nodes (sizeOf t) k w → satisfiedOpen t q k w i ≡ true → Begins t q k i w
-      unfolding satisfiedOpen satisfied related
-      hit within nodes h =
-          let (g, f, c) = exact (treeOf t) sound (unfilled i k) (filled-few i) (assigned (take k w)) (pathAt q (lastOf q)) (ok .rule) .0 h in
-          record {
-            one = rowFrom k g;
-            answer = (row-long k g, λ j l. below g f j (omega (arith, row-long k g)), subst (λ (a : ℕ → ℕ). hasPair (treeOf t) a (pathAt q (lastOf q)) ≡ true) (sym (same g f)) c);
-            same = λ j l. row-at k g j (omega arith) ∙ f .kept j (is-filled i j l) ∙ is-assigned (take k w) j ∙ getD-take k w j 0 (omega arith);
-          }
-        where
-          go : (g : ℕ → ℕ) → Fills (sizeOf t) (unfilled i k) (assigned (take k w)) g → (j : ℕ) → Dec (j < k) → assigned (rowFrom k g) j ≡ g j
-          go g f j (yes l) = is-assigned (rowFrom k g) j ∙ row-at k g j l
-          go g f j (no l) = is-assigned (rowFrom k g) j ∙ beyond (rowFrom k g) (row-long k g) j (omega arith) ∙ sym (f .kept j (no-variable i j (omega arith)) ∙ is-assigned (take k w) j)
-
-          same : (g : ℕ → ℕ) → Fills (sizeOf t) (unfilled i k) (assigned (take k w)) g → assigned (rowFrom k g) ≡ g
-          same g f = fun-ext (λ j. go g f j (decLt j k))
-
-          below : (g : ℕ → ℕ) → Fills (sizeOf t) (unfilled i k) (assigned (take k w)) g → (j : ℕ) → j < k → getD (rowFrom k g) j 0 < sizeOf t
-          below g f j l = rw (row-at k g j l) (at (seen (unfilled i k j)))
-            where
-              at : Seen (unfilled i k j) → g j < sizeOf t
-              at (yes! p) = f .node j p
-              at (no! p) = rw (f .kept j p ∙ is-assigned (take k w) j ∙ getD-take k w j 0 l) (nodes j l)
+        below : (g : ℕ → ℕ) → Fills (sizeOf t) (unfilled i k) (assigned (take k w)) g → (j : ℕ) → j < k → getD (rowFrom k g) j 0 < sizeOf t
+        below g f j l = rw (row-at k g j l) (at (seen (unfilled i k j)))
+          where
+            at : Seen (unfilled i k j) → g j < sizeOf t
+            at (yes! p) = f .node j p
+            at (no! p) = rw (f .kept j p ∙ is-assigned (take k w) j ∙ getD-take k w j 0 l) (nodes j l)
 
   -- behind the last variable nothing is opened
   last-passes : (i : ℕ) (row : List ℕ) → i + 1 ≡ k → passes t q k row i ≡ goesOn t q k row i

@@ -15,10 +15,12 @@ use Rattle.model.specs.Accepted.{Below}
 use Rattle.model.proofs.Booleans.{no-yes, not-yes}
 use Rattle.model.proofs.Answers.{In, answers-rising, answers-member, satisfied-pair}
 use Rattle.answers.specs.declared.Spot.{Spot}
-use Rattle.answers.specs.Search.{rowAt, ahead, Searchable}
+use Rattle.engines.specs.Engines.{Searchable}
+use Rattle.answers.specs.Search.{rowAt, ahead}
 use Rattle.quick.specs.Search.{Ready, Answer, Nodes, Same, Before, goesOn, someAnswer, Lowest, Begins, First}
 use Rattle.quick.proofs.Rows.{less-before, before-less, before-step, none-kept, first-kept, next-kept}
-use Rattle.quick.proofs.Opened.{few, long, found, hit}
+use Rattle.answers.proofs.Opened.{long}
+use Rattle.quick.proofs.Opened.{few, found, hit}
 
 -- a number of a row that is set
 pub set-at : (w : List ℕ) (i v j : ℕ) → length w ≡ 3 → i < 3 → j ≡ i → getD (set w i v) j 0 ≡ v
@@ -69,7 +71,7 @@ module _ {t prev q : List ℕ} {k : ℕ} (ok : Ready t prev q k) (w : List ℕ) 
       hit ok (set w i v) (length-set w i v ∙ three) (i + 1) (omega arith) (set-nodes (sizeOf t) k w i v (few ok) three l nodes m) (h .holds m)
 
 pub nodes : {t prev q : List ℕ} {k : ℕ} → Ready t prev q k → (w : List ℕ) → length w ≡ 3 → Below (sizeOf t) (take k w) → Nodes (sizeOf t) k w
-nodes {t} {prev} {q} {k} ok w three b j l = rw (← getD-take k w j 0 l) (b j (omega (arith, long ok w three)))
+nodes {t} {prev} {q} {k} ok w three b j l = rw (← getD-take k w j 0 l) (b j (omega (arith, long (ok .listed) w three)))
 
 -- The loop that tries the numbers from one on.
 
@@ -134,14 +136,14 @@ module _ {t prev q : List ℕ} {k : ℕ} (ok : Ready t prev q k) where
   some-begins b p h nodes = hit ok (0 ∷ 0 ∷ 0 ∷ []) refl 0 (omega arith) nodes (sym p ∙ h)
 
   pub zero-nodes : Nodes (sizeOf t) k (0 ∷ 0 ∷ 0 ∷ [])
-  zero-nodes zero l = ok .searchable .linked .tree .sound .some-node
-  zero-nodes (suc zero) l = ok .searchable .linked .tree .sound .some-node
-  zero-nodes (suc (suc zero)) l = ok .searchable .linked .tree .sound .some-node
+  zero-nodes zero l = ok .listed .searchable .linked .tree .sound .some-node
+  zero-nodes (suc zero) l = ok .listed .searchable .linked .tree .sound .some-node
+  zero-nodes (suc (suc zero)) l = ok .listed .searchable .linked .tree .sound .some-node
   zero-nodes (suc (suc (suc j))) l = absurd (omega (arith, few ok))
 
   module _ (row : List ℕ) (three : length row ≡ 3) where
     wide : length (take k row) ≡ k
-    wide = long ok row three
+    wide = long (ok .listed) row three
 
     number : (j : ℕ) → j < k → getD (take k row) j 0 ≡ getD row j 0
     number j l = getD-take k row j 0 l

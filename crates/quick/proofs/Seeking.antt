@@ -15,7 +15,8 @@ use Rattle.answers.specs.Search.{rowAt, ahead}
 use Rattle.quick.specs.declared.Found.{Found}
 use Rattle.quick.specs.Effort.{climbed, soughtFirst}
 use Rattle.quick.specs.Search.{Ready, Nodes, goesOn, someAnswer, Lowest, Tries, Begins, FirstFrom, Sought, SoughtAfter, noAnswer}
-use Rattle.quick.proofs.Opened.{few, long}
+use Rattle.answers.proofs.Opened.{long}
+use Rattle.quick.proofs.Opened.{few}
 use Rattle.quick.proofs.Search.{Climbing, climbing-start, climbing-on, climbing-begins, climbing-nodes, climbing-found, climbing-done, counted-down, found-same, found-higher, first-ahead, none-ahead, levels-down, levels-few}
 use Rattle.quick.proofs.Effort.{climbed-start, climbed-on, climbed-found, sought-found, sought-none}
 
@@ -27,7 +28,7 @@ pub record Seeking (t q : List ℕ) (k : ℕ) (row : List ℕ) (i e : ℕ) : Typ
 
 module _ {t prev q : List ℕ} {k : ℕ} (ok : Ready t prev q k) (row : List ℕ) (three : length row ≡ 3) where
   pub seeking-start : Seeking t q k row k 0
-  seeking-start = record { climbing = climbing-start ok row three; most = omega arith; spent = climbed-start (sizeOf t) k (take k row) (long ok row three) }
+  seeking-start = record { climbing = climbing-start ok row three; most = omega arith; spent = climbed-start (sizeOf t) k (take k row) (long (ok .listed) row three) }
 
   -- a turn, which counts i down and reads the number m there
   module _ (i e : ℕ) (now : Seeking t q k row i e) (p : 0 < i) (m : ℕ) (here : m ≡ getD row (i - 1) 0) where
@@ -50,7 +51,7 @@ module _ {t prev q : List ℕ} {k : ℕ} (ok : Ready t prev q k) (row : List ℕ
           record {
             climbing = climbing-on ok row three (i - 1) m down here v w h;
             most = omega (arith, now .most, levels-down k i (sizeOf t) p (now .climbing .within));
-            spent = climbed-on (sizeOf t) i m e (take k row) (now .spent) p (omega (arith, long ok row three, now .climbing .within)) reads e₁ node (tried .1 h);
+            spent = climbed-on (sizeOf t) i m e (take k row) (now .spent) p (omega (arith, long (ok .listed) row three, now .climbing .within)) reads e₁ node (tried .1 h);
           }
 
       module _ (h : v < sizeOf t) where
@@ -69,8 +70,8 @@ module _ {t prev q : List ℕ} {k : ℕ} (ok : Ready t prev q k) (row : List ℕ
               (
                 omega (arith, now .most, levels-down k i (sizeOf t) p (now .climbing .within), levels-few (i - 1) k (sizeOf t) (few ok)),
                 sought-found (sizeOf t) (r .evaluations) (take k row) (rowAt k s) (keep (less (rowAt k s)) (answers t q k)) (keep (less (take k row)) (answers t q k))
-                    (climbed-found (sizeOf t) i m e (take k row) (now .spent) p (omega (arith, long ok row three, now .climbing .within)) reads v e₁ (r .evaluations) (rowAt k s) (omega (arith, w .low)) (tried .0 h) d
-                    (f .answer .0 ∙ sym (long ok row three)) (found-same ok row three (i - 1) m down here v w s f) (found-higher ok row three (i - 1) m down here v w s f)) b,
+                    (climbed-found (sizeOf t) i m e (take k row) (now .spent) p (omega (arith, long (ok .listed) row three, now .climbing .within)) reads v e₁ (r .evaluations) (rowAt k s) (omega (arith, w .low)) (tried .0 h) d
+                    (f .answer .0 ∙ sym (long (ok .listed) row three)) (found-same ok row three (i - 1) m down here v w s f) (found-higher ok row three (i - 1) m down here v w s f)) b,
               ),
             )
 
@@ -92,9 +93,9 @@ module _ {t prev q : List ℕ} {k : ℕ} (ok : Ready t prev q k) (c : Cursor) wh
         let s : Spot = r .spot in
         let a : ahead k (answers t q k) s ≡ answers t q k = first-ahead ok (0 ∷ 0 ∷ 0 ∷ []) s f in
         let b : (rowAt k s ∷ keep (less (rowAt k s)) (answers t q k)) ≡ answers t q k = rw (f .there) at a in
-        rw fresh (a, (omega (arith, ok .searchable .linked .tree .sound .some-node), d ∙ ap soughtFirst b))
+        rw fresh (a, (omega (arith, ok .listed .searchable .linked .tree .sound .some-node), d ∙ ap soughtFirst b))
 
     pub first-none : (b : Bool) → b ≡ someAnswer t q k → b ≡ false → (f : Found) → f ≡ noAnswer (0 ∷ 0 ∷ 0 ∷ []) 1 → SoughtAfter t q k c f
     first-none b p h f e =
         let a : [] ≡ answers t q k = none-ahead ok b p h (noAnswer (0 ∷ 0 ∷ 0 ∷ []) 1 .spot) refl in
-        rw (e, fresh) (a, (omega (arith, ok .searchable .linked .tree .sound .some-node), ap soughtFirst a))
+        rw (e, fresh) (a, (omega (arith, ok .listed .searchable .linked .tree .sound .some-node), ap soughtFirst a))

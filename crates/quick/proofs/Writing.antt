@@ -45,7 +45,7 @@ module _ {t q : List ℕ} {k : ℕ} {c : Cursor} {first : List ℕ} {at : Spot} 
   -- the number of evaluations fits: no more rows are written than there are
   pub written-fits : (prev : List ℕ) → Ready t prev q k → (f : ℕ) → f ≤ 6 * sizeOf t → e + f < 18446744073709551616
   written-fits prev ok f l =
-      let small : sizeOf t ≤ 256 = ok .searchable .linked .tree .sound .at-most in
+      let small : sizeOf t ≤ 256 = ok .listed .searchable .linked .tree .sound .at-most in
       let rows : count ≤ 16777216 = omega (arith, g .going .long, length-take count (after k (answers t q k) c), answers-few t q k c small (few ok)) in
       let a : 6 * sizeOf t * (count + 1) ≤ 6 * sizeOf t * 16777217 = mul-le-mul-left (6 * sizeOf t) (let z : count + 1 ≤ 16777217 = omega arith in z) in
       omega (arith, g .most)

@@ -5,23 +5,21 @@ use mathlib.Core.Bool.{Bool, true, false}
 use mathlib.Core.List.{List, [], _∷_}
 use lib.ListN.{length, take, drop, getD, set}
 use Rattle.model.specs.declared.Cursor.{Cursor}
-use Rattle.model.specs.Tree.{sizeOf, treeOf}
+use Rattle.model.specs.Tree.{sizeOf}
 use Rattle.model.specs.QueryTable.{pathAt, lastOf}
-use Rattle.model.specs.Results.{assigned}
 use Rattle.model.specs.Answers.{Row, less, keep, satisfied, answers}
 use Rattle.model.specs.Pages.{after}
-use Rattle.model.specs.Accepted.{Below, Shaped}
-use Rattle.model.specs.Sharing.{Unshared, opened, unfilled, hasPair}
+use Rattle.model.specs.Accepted.{Below}
+use Rattle.model.specs.Sharing.{Unshared}
 use Rattle.answers.specs.declared.Spot.{Spot}
-use Rattle.answers.specs.Search.{rowAt, ahead, Searchable}
+use Rattle.answers.specs.Search.{rowAt, ahead, Listed, satisfiedOpen}
 use Rattle.quick.specs.declared.Tried.{Tried}
 use Rattle.quick.specs.declared.Found.{Found}
 use Rattle.quick.specs.Effort.{descended, sought, soughtAfter}
 
 -- a query of k variables that keeps the rule, over a tree with its links
 pub record Ready (t prev q : List ℕ) (k : ℕ) : Type 0 where
-  pub searchable : Searchable t prev q k
-  pub shaped : Shaped q
+  pub listed : Listed t prev q k
   pub rule : Unshared (pathAt q (lastOf q))
 
 -- x is an answer: it has one node for each variable, and the query has a pair under it
@@ -48,15 +46,11 @@ Before i r s = (c : ℕ) × (c < i) × Same c r s × (getD r c 0 < getD s c 0)
 unfoldable pub passes : List ℕ → List ℕ → ℕ → List ℕ → ℕ → ℕ → Bool
 passes t q k row i v = satisfied t q (take k (set row i v))
 
--- the query has a pair under the row, where the variables from i on stand for any node
-unfoldable pub satisfiedOpen : List ℕ → List ℕ → ℕ → List ℕ → ℕ → Bool
-satisfiedOpen t q k row i = hasPair (treeOf t) (assigned (take k row)) (opened (unfilled i k) (pathAt q (lastOf q)))
-
--- the same under the row with v in place of its number i, where the variables behind that stand for any node
+-- the same where the variables behind that stand for any node
 unfoldable pub goesOn : List ℕ → List ℕ → ℕ → List ℕ → ℕ → ℕ → Bool
 goesOn t q k row i v = satisfiedOpen t q k (set row i v) (i + 1)
 
--- the same where all variables do
+-- the query has a pair where all variables do
 abbrev pub someAnswer : List ℕ → List ℕ → ℕ → Bool
 someAnswer t q k = satisfiedOpen t q k (0 ∷ 0 ∷ 0 ∷ []) 0
 

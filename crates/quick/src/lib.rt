@@ -1,6 +1,7 @@
 // The answers of a query that keeps the rule of source document 004, page by page (document 02, §7). An answer is found variable by
 // variable: with the later variables standing for any node, one evaluation tells whether some answer begins so. At most 6 × n
-// evaluations for each row written, and as many to tell whether there is one more.
+// evaluations for each row written, and as many to tell whether there is one more. `whole` says by which engine: it is decided once a
+// call, since an opened query nests as the query does.
 ghost use mathlib.Core.Path.{_≡_};
 ghost use mathlib.Core.Bool.{true};
 ghost use Prim.Native.Nat.{_≤_, _<_};
@@ -11,7 +12,8 @@ ghost use Rattle.model.specs.Refusals.{verdict};
 ghost use Rattle.model.specs.Checks.{quickChecks};
 ghost use Rattle.model.specs.Accepted.{AcceptedTree, Below};
 ghost use Rattle.model.specs.Services.{pageOutcome, PageLeaves};
-ghost use Rattle.answers.specs.Search.{Searchable, refusedPage};
+ghost use Rattle.engines.specs.Engines.{Searchable};
+ghost use Rattle.answers.specs.Search.{refusedPage};
 ghost use Rattle.quick.specs.Search.{Ready, Nodes, passes, goesOn, someAnswer, Seeks, Begins, FirstFrom, Sought, SoughtAfter, noAnswer};
 ghost use Rattle.quick.specs.Service.{PageWritten, countedOf, plainOf, QuickLeaves};
 
@@ -40,6 +42,7 @@ fn passes_with(
     tree: &[u16],
     prev: &[u16],
     query: &[u16],
+    whole: bool,
     k: usize,
     row: [u16; 3],
     i: usize,
@@ -53,7 +56,7 @@ fn passes_with(
 {
     let mut at = row;
     at[i] = v as u16;
-    answers::satisfies(tree, prev, query, k, at)
+    answers::satisfies(tree, prev, query, whole, k, at)
 }
 
 // The lowest number v, of those from a given one on, with which a query has a pair under the row; n if there is none. At most n
@@ -62,6 +65,7 @@ fn lowest_passing(
     tree: &[u16],
     prev: &[u16],
     query: &[u16],
+    whole: bool,
     k: usize,
     row: [u16; 3],
     i: usize,
@@ -79,7 +83,7 @@ fn lowest_passing(
     let mut evaluations = spent;
     while v < n {
         evaluations += 1;
-        if passes_with(tree, prev, query, k, row, i, v) {
+        if passes_with(tree, prev, query, whole, k, row, i, v) {
             return Tried {
                 number: v,
                 evaluations: evaluations,
@@ -100,6 +104,7 @@ fn lowest_from(
     tree: &[u16],
     prev: &[u16],
     query: &[u16],
+    whole: bool,
     k: usize,
     row: [u16; 3],
     i: usize,
@@ -115,21 +120,21 @@ fn lowest_from(
     let filled = i + 1;
     let last = filled == k;
     if last {
-        return lowest_passing(tree, prev, query, k, row, i, from, spent);
+        return lowest_passing(tree, prev, query, whole, k, row, i, from, spent);
     }
     let table = opening::open(query, filled);
     let end = 4 * (query.len() / 4 + 2);
-    lowest_passing(tree, prev, &table[..end], k, row, i, from, spent)
+    lowest_passing(tree, prev, &table[..end], whole, k, row, i, from, spent)
 }
 
 // There is an answer. All variables stand for any node. One evaluation.
-fn has_answer(tree: &[u16], prev: &[u16], query: &[u16], k: usize) -> bool
+fn has_answer(tree: &[u16], prev: &[u16], query: &[u16], whole: bool, k: usize) -> bool
     requires { ⌜ Ready (now tree) (now prev) (now query) k ⌝ }
     ensures { λ r. ⌜ r ≡ someAnswer (now (tree .entry)) (now (query .entry)) k ⌝ }
 {
     let table = opening::open(query, 0);
     let end = 4 * (query.len() / 4 + 2);
-    answers::satisfies(tree, prev, &table[..end], k, [0, 0, 0])
+    answers::satisfies(tree, prev, &table[..end], whole, k, [0, 0, 0])
 }
 
 // The next answer.
@@ -139,6 +144,7 @@ fn fill(
     tree: &[u16],
     prev: &[u16],
     query: &[u16],
+    whole: bool,
     k: usize,
     row: [u16; 3],
     i: usize,
@@ -154,7 +160,7 @@ fn fill(
     let mut j = i;
     let mut evaluations = spent;
     while j < k {
-        let t = lowest_from(tree, prev, query, k, at, j, 0, evaluations);
+        let t = lowest_from(tree, prev, query, whole, k, at, j, 0, evaluations);
         at[j] = t.number as u16;
         evaluations = t.evaluations;
         j += 1;
@@ -183,7 +189,14 @@ fn no_answer(row: [u16; 3], evaluations: usize) -> Found
 
 // The first answer after a row. From the last variable to the first, a higher number is sought with which some answer goes on; the
 // later variables are then filled. At most 6 × n evaluations.
-fn answer_after(tree: &[u16], prev: &[u16], query: &[u16], k: usize, row: [u16; 3]) -> Found
+fn answer_after(
+    tree: &[u16],
+    prev: &[u16],
+    query: &[u16],
+    whole: bool,
+    k: usize,
+    row: [u16; 3],
+) -> Found
     requires { ⌜ Ready (now tree) (now prev) (now query) k × Below (sizeOf (now tree)) (take k row) ⌝ }
     ensures { λ r. ⌜ Sought (now (tree .entry)) (now (query .entry)) k row r ⌝ }
 {
@@ -193,19 +206,26 @@ fn answer_after(tree: &[u16], prev: &[u16], query: &[u16], k: usize, row: [u16; 
     while 0 < i {
         i -= 1;
         let from = model::wide(row[i]) + 1;
-        let t = lowest_from(tree, prev, query, k, row, i, from, evaluations);
+        let t = lowest_from(tree, prev, query, whole, k, row, i, from, evaluations);
         evaluations = t.evaluations;
         if t.number < n {
             let mut at = row;
             at[i] = t.number as u16;
-            return fill(tree, prev, query, k, at, i + 1, evaluations);
+            return fill(tree, prev, query, whole, k, at, i + 1, evaluations);
         }
     }
     no_answer(row, evaluations)
 }
 
 // The first answer after a cursor's row, or the first of all. At most 6 × n evaluations.
-fn first_answer(tree: &[u16], prev: &[u16], query: &[u16], k: usize, cursor: model::Cursor) -> Found
+fn first_answer(
+    tree: &[u16],
+    prev: &[u16],
+    query: &[u16],
+    whole: bool,
+    k: usize,
+    cursor: model::Cursor,
+) -> Found
     requires { ⌜
         Ready (now tree) (now prev) (now query) k
         × (hasBegun cursor ≡ true → Below (sizeOf (now tree)) (rowOf k cursor))
@@ -218,12 +238,13 @@ fn first_answer(tree: &[u16], prev: &[u16], query: &[u16], k: usize, cursor: mod
             tree,
             prev,
             query,
+            whole,
             k,
             [cursor.first, cursor.second, cursor.third],
         );
     }
-    if has_answer(tree, prev, query, k) {
-        return fill(tree, prev, query, k, [0, 0, 0], 0, 1);
+    if has_answer(tree, prev, query, whole, k) {
+        return fill(tree, prev, query, whole, k, [0, 0, 0], 0, 1);
     }
     no_answer([0, 0, 0], 1)
 }
@@ -254,6 +275,7 @@ fn write_page(
     tree: &[u16],
     prev: &[u16],
     query: &[u16],
+    whole: bool,
     k: usize,
     cursor: model::Cursor,
     rows: &mut [u16],
@@ -265,7 +287,7 @@ fn write_page(
     ensures { λ r. ⌜ PageWritten (now (tree .entry)) (now (query .entry)) k cursor (now (rows .entry)) r (now (rows .exit)) ⌝ }
 {
     let room = rows.len() / k;
-    let first = first_answer(tree, prev, query, k, cursor);
+    let first = first_answer(tree, prev, query, whole, k, cursor);
     let mut at = first.spot;
     let mut evaluations = first.evaluations;
     let mut last = cursor;
@@ -278,7 +300,7 @@ fn write_page(
         answers::write_row(k, row, rows, count * k);
         last = answers::cursor_at(k, last, row);
         count += 1;
-        let following = answer_after(tree, prev, query, k, row);
+        let following = answer_after(tree, prev, query, whole, k, row);
         evaluations += following.evaluations;
         at = following.spot;
     }
@@ -324,7 +346,7 @@ pub fn refused(v: model::Reply, cursor: model::Cursor) -> Quick
 }
 
 // The page after a cursor over an accepted tree, by value: the reply, with the evaluations that were made, and the cursor after it. The
-// query is checked, and the previous siblings found, once a call.
+// query is checked, its engine chosen, and the previous siblings found, once a call.
 pub fn page_from(
     tree: &[u16],
     query: &[u16],
@@ -344,7 +366,8 @@ pub fn page_from(
         return refused(v, cursor);
     }
     let prev = tree::previous_siblings(tree);
-    write_page(tree, &prev, query, columns, cursor, rows)
+    let whole = nesting::nests(query);
+    write_page(tree, &prev, query, whole, columns, cursor, rows)
 }
 
 // A page without the evaluations that it took.

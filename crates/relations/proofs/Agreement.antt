@@ -14,7 +14,7 @@ use Rattle.model.specs.Refusals.{Check, reply, verdict, written}
 use Rattle.model.specs.Checks.{tableChecks, roomChecks, pairsChecks}
 use Rattle.model.specs.Services.{PairsLeave}
 use Rattle.model.proofs.Bytes.{length-tab}
-use Rattle.images.proofs.Accepted.{pairs-accepted}
+use Rattle.checks.proofs.Accepted.{pairs-accepted}
 use Rattle.bits.specs.BitTables.{bitCell, bitTable, byteTable, packed, unpacked}
 use Rattle.bits.proofs.Words.{length-words}
 use Rattle.packing.proofs.RoundTrip.{pack-table, unpack-table}

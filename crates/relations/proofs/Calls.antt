@@ -32,23 +32,23 @@ module _ {t prev q nodes counts : List ℕ} {room e : ℕ} {path : Bool} {more :
 
   -- the same entry, with room for another number of tables, over words of the same length
   pub ask-same : {acc′ : List ℕ} (space m : ℕ) → asideAt q e + m ≤ space → length acc′ ≡ length acc → Asks t prev q nodes counts space e path m acc′
-  ask-same space m g ea = record { ready = a .ready; shaped = a .shaped; counted = a .counted; kinds = a .kinds; table = omega (arith, a .table); fits = g }
+  ask-same space m g ea = record { ready = a .ready; few = a .few; counted = a .counted; kinds = a .kinds; table = omega (arith, a .table); fits = g }
 
   -- of its own sort, whichever that is
   ask-own : Asks t prev q nodes counts room e (isPath (kind q e)) more acc
-  ask-own = record { ready = a .ready; shaped = a .shaped; counted = a .counted; kinds = record { within = a .kinds .within; sort = refl }; table = a .table; fits = a .fits }
+  ask-own = record { ready = a .ready; few = a .few; counted = a .counted; kinds = record { within = a .kinds .within; sort = refl }; table = a .table; fits = a .fits }
 
   -- an operand
   ask-operand : {acc′ : List ℕ} (space i : ℕ) (p : Bool) (m : ℕ) → Operand q e i p → asideAt q i + m ≤ space → length acc′ ≡ length acc → (i < e) × Asks t prev q nodes counts space i p m acc′
   ask-operand space i p m o b ea =
-      (o .lower, record { ready = a .ready; shaped = a .shaped; counted = a .counted; kinds = o .kinds; table = omega (arith, a .table); fits = b })
+      (o .lower, record { ready = a .ready; few = a .few; counted = a .counted; kinds = o .kinds; table = omega (arith, a .table); fits = b })
 
   module _ {f : Entry} (fe : f ≡ entry q e) where
     left-aside : hasLeft (f .kind) ≡ true → asideAt q (f .left) ≤ asideAt q e
-    left-aside h = rw fe (aside-left q (a .shaped) e (a .kinds .within) (rw fe at h))
+    left-aside h = rw fe (aside-left q (a .ready .query .formed) e (a .kinds .within) (rw fe at h))
 
     right-aside : hasRight (f .kind) ≡ true → asideAt q (f .right) ≤ asideAt q e
-    right-aside h = rw fe (aside-right q (a .shaped) e (a .kinds .within) (rw fe at h))
+    right-aside h = rw fe (aside-right q (a .ready .query .formed) e (a .kinds .within) (rw fe at h))
 
     module _ {acc′ : List ℕ} (ea : length acc′ ≡ length acc) where
       pub ask-left : leftPath (f .kind) ≡ true → (f .left < e) × Asks t prev q nodes counts room (f .left) true more acc′
@@ -70,7 +70,7 @@ module _ {t prev q nodes counts : List ℕ} {room e : ℕ} {path : Bool} {more :
       counted-left = a .counted .at (f .left) (left-path fe (a .ready) (a .kinds .within) h .kinds .within)
 
       pub left-index : f .left < length counts
-      left-index = omega (arith, left-path fe (a .ready) (a .kinds .within) h .kinds .within, a .shaped .few, a .counted .size)
+      left-index = omega (arith, left-path fe (a .ready) (a .kinds .within) h .kinds .within, a .few, a .counted .size)
 
       -- the left operand, with room for a table beside it
       pub ask-spare : {acc′ : List ℕ} → (eqb (f .kind) 1 && ltb (getD counts (f .left) 0) room) ≡ true → length acc′ ≡ length acc → (f .left < e) × Asks t prev q nodes counts room (f .left) true 1 acc′
@@ -83,7 +83,7 @@ module _ {t prev q nodes counts : List ℕ} {room e : ℕ} {path : Bool} {more :
       counted-right = a .counted .at (f .right) (right-path fe (a .ready) (a .kinds .within) h .kinds .within)
 
       pub right-index : f .right < length counts
-      right-index = omega (arith, right-path fe (a .ready) (a .kinds .within) h .kinds .within, a .shaped .few, a .counted .size)
+      right-index = omega (arith, right-path fe (a .ready) (a .kinds .within) h .kinds .within, a .few, a .counted .size)
 
 -- there is room to spare in compositions alone
 pub spare-kind : (k : ℕ) (b : Bool) → (eqb k 1 && b) ≡ true → k ≡ 1
@@ -138,7 +138,7 @@ module _ {t prev q nodes counts : List ℕ} {room e : ℕ} {acc : List ℕ} (j :
   has-right = rw fe (yes-right (leftPath (kind q e)) (rightPath (kind q e)) (j .both))
 
   in-turn : asideAt q e ≡ inTurn (asideAt q (f .left)) (asideAt q (f .right))
-  in-turn = rw fe (aside-two q (j .asks .shaped) e (j .asks .kinds .within) (j .both))
+  in-turn = rw fe (aside-two q (j .asks .ready .query .formed) e (j .asks .kinds .within) (j .both))
 
   -- the kinds that combine their tables
   pub combining : (f .kind ≡ 1 → ⊥) → (2 ≤ f .kind) × (f .kind ≤ 14)

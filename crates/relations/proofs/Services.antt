@@ -12,17 +12,14 @@ use Rattle.model.specs.Tree.{treeOf, sizeOf}
 use Rattle.model.specs.QueryTable.{lastOf}
 use Rattle.model.specs.Results.{related}
 use Rattle.model.specs.Refusals.{verdict, written}
-use Rattle.model.specs.Checks.{treeChecks, queryChecks, nodeChecks, tableChecks, roomChecks}
-use Rattle.model.proofs.Refusals.{Passes, numbered, accepted, Passes-front, all-pass, written-over}
-use Rattle.model.proofs.Accepted.{query-shaped, tree-numbered, query-numbered}
-use Rattle.checks.proofs.Verdicts.{zero-of, tables-numbered}
+use Rattle.model.specs.Checks.{roomChecks}
+use Rattle.model.proofs.Refusals.{Passes, numbered, accepted, written-over}
+use Rattle.checks.proofs.Verdicts.{zero-of}
 use Rattle.tree.specs.Links.{PreviousSiblings}
-use Rattle.images.specs.Tables.{Tables}
-use Rattle.images.proofs.Accepted.{front}
-use Rattle.model.specs.Accepted.{Shaped}
+use Rattle.checks.specs.Tables.{Tables}
+use Rattle.checks.proofs.Accepted.{front}
 use Rattle.aside.specs.Aside.{Counts, asideAt}
-use Rattle.aside.proofs.Accepted.{accepted-five}
-use Rattle.bits.specs.Words.{words}
+use Rattle.aside.proofs.Five.{five-aside}
 use Rattle.bits.specs.BitTables.{bitCell, bitTable}
 use Rattle.bits.specs.Rows.{Becomes}
 use Rattle.bits.proofs.Words.{length-words}
@@ -30,16 +27,20 @@ use Rattle.bits.proofs.Rows.{as-words}
 use Rattle.relations.specs.Evaluation.{Asks, tableAt}
 use Rattle.relations.specs.Services.{bitPairsChecks, pairsWords}
 
+-- no accepted query needs more than five tables aside
+pub tables-five : (t q nodes : List ℕ) → Tables t q nodes → asideAt q (lastOf q) ≤ 5
+tables-five t q nodes a = five-aside q (a .shaped) (omega (arith, a .last)) (a .once)
+
 -- what the last entry keeps aside, as it is counted
 pub last-counted : (t q nodes counts : List ℕ) → Counts q counts → Tables t q nodes → getD counts (lastOf q) 0 ≡ asideAt q (lastOf q)
 last-counted t q nodes counts c a = c .at (lastOf q) (a .last)
 
 -- what the last entry asks for, with room for so many tables
-pub ask-last : (t prev q nodes counts acc : List ℕ) (room : ℕ) → Tables t q nodes → PreviousSiblings (treeOf t) (sizeOf t) prev → Shaped q → Counts q counts → getD counts (lastOf q) 0 ≤ room
+pub ask-last : (t prev q nodes counts acc : List ℕ) (room : ℕ) → Tables t q nodes → PreviousSiblings (treeOf t) (sizeOf t) prev → Counts q counts → getD counts (lastOf q) 0 ≤ room
     → 4 * sizeOf t ≤ length acc → Asks t prev q nodes counts room (lastOf q) true 0 acc
-ask-last t prev q nodes counts acc room a p s c l h = record {
+ask-last t prev q nodes counts acc room a p c l h = record {
   ready = record { linked = record { tree = a .tree; siblings = p }; query = a .query };
-  shaped = s;
+  few = omega (arith, a .shaped .few);
   counted = c;
   kinds = record { within = a .last; sort = a .path };
   table = h;
@@ -56,23 +57,12 @@ did-pairs t q nodes w o b h fits = as-words (sizeOf t) _ (bitCell (sizeOf t) (re
     rw (e, d))
 
 module _ (t q nodes : List ℕ) (columns room : ℕ) (r : Reply) (p : r ≡ verdict (bitPairsChecks t q columns nodes room)) (z : r .number ≡ 0) where
-  tables-pass : verdict (tableChecks t q columns nodes) .number ≡ 0
-  unfolding bitPairsChecks
-  tables-pass = all-pass (tableChecks t q columns nodes)
-      (Passes-front (tableChecks t q columns nodes) (roomChecks room (4 * sizeOf t)) (tables-numbered t q columns nodes) (zero-of (bitPairsChecks t q columns nodes room) r p z) .0)
-
-  query-passes : Passes (queryChecks q 0 columns)
-  unfolding tableChecks
-  query-passes =
-      let v = Passes-front (treeChecks t) (queryChecks q 0 columns ++ nodeChecks t columns nodes) (tree-numbered t) tables-pass in
-      Passes-front (queryChecks q 0 columns) (nodeChecks t columns nodes) (query-numbered q 0 columns) (v .1) .0
-
-  pub pairs-accepted : Tables t q nodes × (Shaped q × ((asideAt q (lastOf q) ≤ 5) × (4 * sizeOf t ≤ room)))
+  pub pairs-accepted : Tables t q nodes × (4 * sizeOf t ≤ room)
   unfolding bitPairsChecks roomChecks Passes numbered
   pairs-accepted =
       let h = front t q nodes columns (roomChecks room (4 * sizeOf t)) (zero-of (bitPairsChecks t q columns nodes room) r p z) in
       let w = accepted (roomChecks room (4 * sizeOf t)) refl (h .1) in
-      (h .0, (query-shaped q 0 columns query-passes, (accepted-five q 0 columns query-passes, ltb-false room (4 * sizeOf t) (w .0))))
+      (h .0, ltb-false room (4 * sizeOf t) (w .0))
 
 pub pairs-over : (t q nodes to after : List ℕ) (r v : Reply) → after ≡ pairsWords t q nodes ++ drop (4 * sizeOf t) to → r ≡ v → r .number ≡ 0 → after ≡ written v (pairsWords t q nodes) to
 unfolding pairsWords bitTable

@@ -7,21 +7,20 @@ use lib.ListN.{length, getD}
 use lib.Dec.{ltb, eqb}
 use Rattle.model.specs.Sets.{upto}
 use Rattle.model.specs.Tree.{sizeOf}
-use Rattle.model.specs.QueryTable.{kind, left, right}
+use Rattle.model.specs.QueryTable.{entriesOf, kind, left, right}
 use Rattle.model.specs.Kinds.{isPath}
 use Rattle.model.specs.Results.{related}
 use Rattle.eval.specs.Evaluation.{Ready, Sorted, passing}
-use Rattle.model.specs.Accepted.{Shaped}
 use Rattle.aside.specs.Aside.{twoTables, asideAt, Counts}
 use Rattle.bits.specs.Words.{words}
 use Rattle.bits.specs.BitTables.{bitRelation}
 use Rattle.bits.specs.Rows.{within, combined, composed}
 
 -- an entry, a path where the flag is set and else a node expression, that can be evaluated, with words for its table, and with room for
--- the tables that it keeps aside and for so many more
+-- the tables that it keeps aside and for so many more; there are no more entries than counts
 pub record Asks (t prev q nodes counts : List ℕ) (room e : ℕ) (path : Bool) (more : ℕ) (acc : List ℕ) : Type 0 where
   pub ready : Ready t prev q nodes
-  pub shaped : Shaped q
+  pub few : entriesOf q ≤ 66
   pub counted : Counts q counts
   pub kinds : Sorted q e path
   pub table : 4 * sizeOf t ≤ length acc

@@ -1,7 +1,7 @@
 // The second engine: a query's pairs as a table of bits, made by operations on whole tables. The tree is an accepted one;
 // all else that is malformed is refused, and then the buffer is left as it was.
-mod table;
-mod write;
+pub mod table;
+pub mod write;
 
 ghost use mathlib.Core.Path.{_≡_};
 ghost use Rattle.model.specs.Refusals.{verdict};

@@ -8,7 +8,7 @@
 // tables composed. The functions call each other, the entry number falling; a level of calls takes some hundred bytes and no table.
 ghost use mathlib.Core.Path.{_≡_};
 ghost use mathlib.Core.Bool.{true, false, cond};
-ghost use Prim.Native.Nat.{_+_, _*_, _≤_, _<_};
+ghost use Prim.Native.Nat.{_≤_, _<_};
 ghost use lib.ListN.{length};
 ghost use Rattle.model.specs.Tree.{sizeOf};
 ghost use Rattle.model.specs.Results.{assigned};
@@ -272,7 +272,7 @@ fn keep(
 }
 
 // The nodes where the node expression at entry e holds, as a row of bits. What stands in acc is lost.
-fn node(
+pub fn node(
     tree: &[u16],
     prev: &[u16],
     query: &[u16],

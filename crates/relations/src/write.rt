@@ -4,15 +4,12 @@ ghost use mathlib.Core.List.{_++_};
 ghost use Prim.Native.Nat.{_*_, _≤_};
 ghost use lib.ListN.{length, drop};
 ghost use Rattle.model.specs.Tree.{sizeOf};
-ghost use Rattle.model.specs.QueryTable.{lastOf};
-ghost use Rattle.images.specs.Tables.{Tables};
-ghost use Rattle.model.specs.Accepted.{Shaped};
-ghost use Rattle.aside.specs.Aside.{asideAt};
+ghost use Rattle.checks.specs.Tables.{Tables};
 ghost use Rattle.relations.specs.Services.{pairsWords};
 
 // How many tables may stand aside: as many as the query needs, and two at least, so that a set operation or a star in a run of steps, or
 // a filter with a composition in it, can be applied to the table of what follows.
-fn room_for(needed: usize) -> usize
+pub fn room_for(needed: usize) -> usize
     requires { ⌜ needed ≤ 5 ⌝ }
     ensures { λ r. ⌜ (needed ≤ r) × (r ≤ 5) ⌝ }
 {
@@ -26,7 +23,7 @@ fn room_for(needed: usize) -> usize
 pub fn pairs_into(tree: &[u16], query: &[u16], nodes: &[u16], to: &mut [u64])
     requires { ⌜
         Tables (now tree) (now query) (now nodes)
-        × (Shaped (now query) × ((asideAt (now query) (lastOf (now query)) ≤ 5) × (4 * sizeOf (now tree) ≤ length (now to))))
+        × (4 * sizeOf (now tree) ≤ length (now to))
         ⌝ }
     ensures { λ _.
         ⌜

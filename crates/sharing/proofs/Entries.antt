@@ -14,8 +14,8 @@ use Rattle.model.specs.Kinds.{isPath, leftPath, leftExpr, rightPath, rightExpr,
 use Rattle.model.specs.Sharing.{inPath, inExpr, shared, used, pathBreaks, exprBreaks, breaks}
 use Rattle.model.proofs.Booleans.{or-cases}
 use Rattle.model.proofs.Exists.{any-cong, any-never}
-use Rattle.model.proofs.Shaped.{Read, sort-of}
-use Rattle.model.proofs.Shaped.Read.{step!, compose!, union!, intersect!, except!, filter!, variable!, root!, exists!, negate!, both!, either!, is!, closure!, same! }
+use Rattle.model.proofs.Formed.{Read, sort-of}
+use Rattle.model.proofs.Formed.Read.{step!, compose!, union!, intersect!, except!, filter!, variable!, root!, exists!, negate!, both!, either!, is!, closure!, same! }
 use Rattle.sharing.specs.Occurrences.{occurs, standing, keepsApart, keepsOut, breaking}
 
 module _ (q : List ℕ) (v : ℕ) where

@@ -13,7 +13,7 @@ use Rattle.model.specs.QueryTable.{kind, left, right, entry, entriesOf}
 use Rattle.model.specs.Sharing.{breaks}
 use Rattle.model.specs.Accepted.{Shaped}
 use Rattle.model.proofs.Bytes.{memb-tab, memb-no, fill-store}
-use Rattle.model.proofs.Shaped.{left-lower, right-lower, read}
+use Rattle.model.proofs.Formed.{left-lower, right-lower, read}
 use Rattle.sharing.specs.Occurrences.{occurs, occurrences, standing, breaking}
 use Rattle.sharing.proofs.Entries.{occurs-from, breaksBy, breaks-from, standing-same, breaking-same}
 
@@ -37,9 +37,9 @@ module _ (q : List ℕ) (ok : Shaped q) where
         here =
             pb ∙ ap (λ (z : Entry). standing z v l r) pf
             ∙ standing-same (entry q e) v l r (occurs q v (left q e)) (occurs q v (right q e))
-            (λ c. pl ∙ ap₂ (λ (s : List ℕ) (z : Entry). memb s (z .left)) p pf ∙ known v e (left q e) (omega arith) (left-lower q ok e within c))
-            (λ c. pr ∙ ap₂ (λ (s : List ℕ) (z : Entry). memb s (z .right)) p pf ∙ known v e (right q e) (omega arith) (right-lower q ok e within c))
-            ∙ sym (occurs-from q v e (read q ok e within))
+            (λ c. pl ∙ ap₂ (λ (s : List ℕ) (z : Entry). memb s (z .left)) p pf ∙ known v e (left q e) (omega arith) (left-lower q (ok .formed) e within c))
+            (λ c. pr ∙ ap₂ (λ (s : List ℕ) (z : Entry). memb s (z .right)) p pf ∙ known v e (right q e) (omega arith) (right-lower q (ok .formed) e within c))
+            ∙ sym (occurs-from q v e (read q (ok .formed) e within))
 
     -- the test by one variable
     broken-by : (v : ℕ) (entries : List ℕ) (b : Bool) → entries ≡ occurrences q v → b ≡ breaking (f .kind) (memb entries (f .left)) (memb entries (f .right)) (memb entries e) → b ≡ breaksBy q e v
@@ -47,8 +47,8 @@ module _ (q : List ℕ) (ok : Shaped q) where
     broken-by v entries b pe pb =
         pb ∙ rw (pe, pf, known v (entriesOf q) e (omega arith) within)
         (breaking-same (kind q e) _ _ _ _ (occurs q v e)
-        (λ c. known v (entriesOf q) (left q e) (omega arith) (omega (arith, left-lower q ok e within c)))
-        (λ c. known v (entriesOf q) (right q e) (omega arith) (omega (arith, right-lower q ok e within c))))
+        (λ c. known v (entriesOf q) (left q e) (omega arith) (omega (arith, left-lower q (ok .formed) e within c)))
+        (λ c. known v (entriesOf q) (right q e) (omega arith) (omega (arith, right-lower q (ok .formed) e within c))))
 
     -- by all three
     pub broken-here : (first second third : List ℕ) (a b c : Bool)
@@ -59,4 +59,4 @@ module _ (q : List ℕ) (ok : Shaped q) where
     unfolding any
     broken-here first second third a b c pa pb pc p₀ p₁ p₂ =
         rw (broken-by 0 first a p₀ pa, broken-by 1 second b p₁ pb, broken-by 2 third c p₂ pc)
-        (ap (λ (z : Bool). breaksBy q e 2 || (breaksBy q e 1 || z)) (sym (or-false (breaksBy q e 0))) ∙ sym (breaks-from q e (read q ok e within)))
+        (ap (λ (z : Bool). breaksBy q e 2 || (breaksBy q e 1 || z)) (sym (or-false (breaksBy q e 0))) ∙ sym (breaks-from q e (read q (ok .formed) e within)))

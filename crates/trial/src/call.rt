@@ -13,6 +13,9 @@ pub const BACKWARDS: u8 = b'b';
 
 pub const PAIRS: u8 = b'p';
 
+// All pairs by the engine over sets, which no service and no line asks for.
+const ROWS: u8 = b'R';
+
 // What fills a buffer before a call: no byte that a service writes.
 pub const PATTERN: u8 = 7;
 
@@ -37,6 +40,25 @@ pub fn no_reply() -> model::ImageReply {
     }
 }
 
+// All pairs by the engine over sets, on the tree that the party sees: so that the two engines are compared.
+fn pairs_by_rows(
+    tree: &[u16],
+    party: u16,
+    query: &[u16],
+    columns: usize,
+    nodes: &[u16],
+    to: &mut [u8],
+) -> model::Reply {
+    let mut table = [0u16; 512];
+    let sight = view::look(tree, party, &mut table);
+    let v = sight.reply;
+    if v.number != 0 {
+        return v;
+    }
+    let count = sight.count;
+    images::pairs_by_rows(&table[..count], query, columns, nodes, to)
+}
+
 // The reply of the service; pairs has no count.
 fn serve(
     c: Call,
@@ -52,6 +74,9 @@ fn serve(
     }
     if c.service == BACKWARDS {
         return parties::backwards(tree, party, query, c.columns, nodes, set, to);
+    }
+    if c.service == ROWS {
+        return model::image_reply(pairs_by_rows(tree, party, query, c.columns, nodes, to), 0);
     }
     model::image_reply(parties::pairs(tree, party, query, c.columns, nodes, to), 0)
 }
@@ -80,7 +105,7 @@ fn lend(
 
 // The count of a call whose result is a set.
 fn expect_count(tally: &mut tally::Tally, c: Call, count: usize) {
-    if c.service == PAIRS {
+    if (c.service == PAIRS) | (c.service == ROWS) {
         return;
     }
     tally::expect(tally, count == c.count);
@@ -122,6 +147,19 @@ pub fn compare_set(
     compare(tally, c, shared, query, nodes, set, &mut to, due);
 }
 
+// The same call, by the engine over sets.
+fn by_rows(c: Call) -> Call {
+    Call {
+        service: ROWS,
+        columns: c.columns,
+        set: c.set,
+        room: c.room,
+        number: c.number,
+        place: c.place,
+        count: c.count,
+    }
+}
+
 // A call on a buffer for a table of pairs.
 pub fn compare_pairs(
     tally: &mut tally::Tally,
@@ -135,8 +173,21 @@ pub fn compare_pairs(
     compare(tally, c, shared, query, nodes, b"", &mut to, due);
 }
 
+// The same by both engines.
+pub fn compare_engines(
+    tally: &mut tally::Tally,
+    c: Call,
+    shared: &shared::Shared,
+    query: &table::Table,
+    nodes: &table::Table,
+    due: &table::Cells,
+) {
+    compare_pairs(tally, c, shared, query, nodes, due);
+    compare_pairs(tally, by_rows(c), shared, query, nodes, due);
+}
+
 // A line of the input: SERVICE NUMBER PLACE COUNT | COLUMNS ROOM | NODES | SET | BYTES, where BYTES are due at the buffer's front;
-// pairs has no COUNT, and those that are accepted are asked for as bits too.
+// pairs has no COUNT, comes again by the engine over sets, and where it is accepted as bits too.
 pub fn run(
     tally: &mut tally::Tally,
     shared: &shared::Shared,
@@ -160,7 +211,11 @@ pub fn run(
         count: line::number(line, 0, 2),
     };
     compare_set(tally, c, shared, query, &nodes, &set, &due);
-    if (service == PAIRS) & (c.number == 0) {
+    if service != PAIRS {
+        return;
+    }
+    compare_set(tally, by_rows(c), shared, query, &nodes, &set, &due);
+    if c.number == 0 {
         bit_pairs::run(tally, shared, query, &nodes, line);
     }
 }

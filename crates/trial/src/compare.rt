@@ -14,7 +14,7 @@ use reference::seeing;
 
 // A call that is accepted, with a set of so many bytes, and room for as many as are needed or a few more; so many nodes are
 // due where the result is a set.
-fn accepted(
+pub fn accepted(
     seed: &mut u64,
     service: u8,
     nodes: &table::Table,
@@ -34,7 +34,7 @@ fn accepted(
 }
 
 // The image of a random set, forwards or backwards, and its count.
-fn compare_image(
+pub fn compare_image(
     tally: &mut tally::Tally,
     seed: &mut u64,
     service: u8,
@@ -69,7 +69,7 @@ fn compare_bits(
     bit_pairs::refuse(tally, &mut own, shared, n, query, nodes);
 }
 
-// The table of all pairs, as bytes and as bits; answers how many there are.
+// The table of all pairs, as bytes by both engines, and as bits; answers how many there are.
 fn compare_pairs(
     tally: &mut tally::Tally,
     seed: &mut u64,
@@ -83,7 +83,7 @@ fn compare_pairs(
     let found = evaluator::all_pairs(pairs, table::last(query), n, &mut due);
     tally::add(tally, tally::PAIRS, found as u64);
     let c = accepted(seed, call::PAIRS, nodes, 0, table::times(n, n), 0);
-    call::compare_pairs(tally, c, shared, query, nodes, &due);
+    call::compare_engines(tally, c, shared, query, nodes, &due);
     compare_bits(tally, *seed, shared, n, query, nodes, &due);
     found
 }

@@ -1,8 +1,10 @@
-// Deep queries: pairs in bits compared with the reference evaluator. The engine over bytes is not asked: a set operation behind a
-// composition takes it n times as long, and here they nest.
+// Deep queries: images and pairs, as bytes and as bits, compared with the reference evaluator. The engine over sets is not asked for them:
+// each set operation, closure and `same` that stands in another takes it n times as long.
 use super::bit_pairs;
 use super::call;
+use super::compare;
 use harness::line;
+use harness::shared;
 use harness::table;
 use harness::tally;
 use reference::bearing;
@@ -10,6 +12,42 @@ use reference::evaluator;
 use reference::owning;
 use reference::random;
 use reference::shapes;
+
+// The image of a random set each way, and the pairs as bytes. The seed is a copy, so that the queries that come next do not depend on it.
+fn compare_services(
+    tally: &mut tally::Tally,
+    seed: u64,
+    shared: &shared::Shared,
+    n: usize,
+    query: &table::Table,
+    nodes: &table::Table,
+    pairs: &evaluator::Pairs,
+    cells: &table::Cells,
+) {
+    let mut own = seed;
+    compare::compare_image(
+        tally,
+        &mut own,
+        call::FORWARDS,
+        shared,
+        n,
+        query,
+        nodes,
+        pairs,
+    );
+    compare::compare_image(
+        tally,
+        &mut own,
+        call::BACKWARDS,
+        shared,
+        n,
+        query,
+        nodes,
+        pairs,
+    );
+    let c = compare::accepted(&mut own, call::PAIRS, nodes, 0, table::times(n, n), 0);
+    call::compare_pairs(tally, c, shared, query, nodes, cells);
+}
 
 // The pairs of one deep query over one tree that a party sees, as a line asks for, LEAST MOST nodes | LEAST MOST leaves, under a random
 // assignment.
@@ -40,6 +78,7 @@ pub fn run(
     tally::add(tally, tally::DEEP, 1);
     tally::add(tally, tally::MIXED, mixed as u64);
     bit_pairs::compare_table(tally, seed, &shared, n, &query, &nodes, &cells);
+    compare_services(tally, *seed, &shared, n, &query, &nodes, pairs, &cells);
     let decides = bearing::decides(pairs, &tree, &query, &nodes, found, bearing::CLOSURE);
     tally::add(tally, tally::DECIDING, decides as u64);
 }

@@ -1,6 +1,8 @@
 // The answers of random queries, page by page, each page both ways. The room changes from call to call, refused calls come
 // between, and the cursor is changed where a page does not read it.
+use super::blocks;
 use super::pages;
+use super::sparse;
 use harness::line;
 use harness::shared;
 use harness::table;
@@ -217,6 +219,22 @@ fn page_all(
     page_through_from_anywhere(tally, seed, shared, query, marks, a);
 }
 
+// The shared table, the seen tree and the query that a line asks for, with the answers marked.
+fn make(
+    seed: &mut u64,
+    line: &line::Line,
+    shared: &mut shared::Shared,
+    tree: &mut table::Table,
+    query: &mut table::Table,
+    pairs: &mut evaluator::Pairs,
+    marks: &mut table::Cells,
+) -> listing::Answers {
+    if line::number(line, 3, 0) != 0 {
+        return sparse::make(seed, line, shared, tree, query, pairs, marks);
+    }
+    steer::make(seed, line, shared, tree, query, pairs, marks, false)
+}
+
 // All pages over the answers of a query; and the same calls with another table of which the party sees the same tree.
 pub fn run(
     tally: &mut tally::Tally,
@@ -229,7 +247,7 @@ pub fn run(
     let mut tree = [0u16; 1025];
     let mut query = [0u16; 1025];
     let mut marks = [0u8; 66560];
-    let a = steer::make(
+    let a = make(
         seed,
         line,
         &mut shared,
@@ -237,9 +255,9 @@ pub fn run(
         &mut query,
         pairs,
         &mut marks,
-        false,
     );
     steer::count(tally, &query, a);
+    blocks::count(tally, &query, &marks, a);
     seeing::count(tally, &shared);
     owning::make_twin(seed, &tree, &shared, &mut twin);
     let mut again = *seed;

@@ -148,7 +148,7 @@ fn run_one(
 }
 
 // random SEED COUNT | LEAST MOST ENTRIES: so many shared tables, of LEAST to MOST nodes, and queries from a seed
-// walks SEED COUNT | LEAST MOST ENTRIES | LEAST MOST: as random, with LEAST to MOST variables
+// walks SEED COUNT | LEAST MOST ENTRIES | LEAST MOST | FEW: as random, with LEAST to MOST variables, and few answers where FEW is not 0
 // kept SEED COUNT | LEAST MOST ENTRIES | LEAST MOST: the same, with queries that keep the rule of quick pages
 // searches SEED COUNT | LEAST MOST TIMES: so many shared tables, of LEAST to MOST nodes, and TIMES searches of every sort for each party
 // joined SEED COUNT | LEAST MOST | LEAST MOST: so many trees that a party sees, of LEAST to MOST nodes, and deep queries of LEAST to MOST
@@ -226,6 +226,13 @@ fn is_random(letter: u8) -> bool {
         | (letter == b'k')
 }
 
+// The shares of the lists with a block that is left out, after no variable, after one and after two.
+fn expect_blocks(tally: &mut tally::Tally, line: &line::Line) {
+    tally::expect_blocks(tally, 0, line::number(line, 1, 0), line::number(line, 1, 1));
+    tally::expect_blocks(tally, 1, line::number(line, 2, 0), line::number(line, 2, 1));
+    tally::expect_blocks(tally, 2, line::number(line, 3, 0), line::number(line, 3, 1));
+}
+
 // The lines that compare on random tables, and those that say how many of these were of some sort.
 fn run_many(tally: &mut tally::Tally, line: &line::Line, letter: u8) {
     if is_random(letter) {
@@ -236,6 +243,7 @@ fn run_many(tally: &mut tally::Tally, line: &line::Line, letter: u8) {
     let of = line::number(line, 0, 1);
     if letter == b'g' {
         tally::expect_gaps(tally, some, of);
+        expect_blocks(tally, line);
     }
     if letter == b'u' {
         tally::expect_damage(tally, some, of);
@@ -284,7 +292,7 @@ fn run_line(
 }
 
 pub fn run_all(text: &[u8]) {
-    let mut tally = [0u64; 68];
+    let mut tally = [0u64; 71];
     let mut shared = [0u16; 1538];
     let mut query = [0u16; 1025];
     let mut at = 0;

@@ -93,7 +93,7 @@ fn run_line(
 }
 
 pub fn run_all(input: &[u8]) {
-    let mut tally = [0u64; 68];
+    let mut tally = [0u64; 71];
     let mut counts = [0u64; 71];
     let mut text = [0u8; 2048];
     let mut house = [0u8; 2048];

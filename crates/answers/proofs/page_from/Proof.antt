@@ -1,4 +1,4 @@
-use Rattle.answers.proofs.Accepted.{page-tree, page-cursor, page-searchable, page-refused, page-accepted}
+use Rattle.answers.proofs.Accepted.{page-tree, page-cursor, page-listed, page-refused, page-accepted}
 use borrow.Author.Needs.{needs}
 use Rattle.answers.proofs.page_from.Statement.{statement}
 use Rattle.answers.proofs.page_from.Tie as tie
@@ -15,17 +15,17 @@ returns c = search (page-refused, needs)
 previous-siblings-requires : tie.Need-previous-siblings-requires
 previous-siblings-requires c κs = page-tree _ _ _ _ _ _ (c .before .before .check-page .ensures) (c .if1 .left) .sound
 
-slice-aggregate-write-page : tie.Need-slice-aggregate-write-page
-slice-aggregate-write-page c = search needs
+slice-aggregate-prepare-page : tie.Need-slice-aggregate-prepare-page
+slice-aggregate-prepare-page c = search needs
 
-write-page-requires : tie.Need-write-page-requires
-write-page-requires c κs = let b = c .before .before .before in (page-searchable _ _ _ _ _ _ (b .before .before .check-page .ensures) (b .if1 .left) _ (c .before .before .previous-siblings .ensures), page-cursor _ _ _ _ _ _ (b .before .before .check-page .ensures) (b .if1 .left))
+prepare-page-requires : tie.Need-prepare-page-requires
+prepare-page-requires c κs = let b = c .before .before .before in (page-listed _ _ _ _ _ _ (b .before .before .check-page .ensures) (b .if1 .left) _ (c .before .before .previous-siblings .ensures), page-cursor _ _ _ _ _ _ (b .before .before .check-page .ensures) (b .if1 .left))
 
 same-length : tie.Need-same-length
 same-length c = search needs
 
 returns-2 : tie.Need-returns-2
-returns-2 c = let b = c .before .before .before .before .before .before in page-accepted _ _ _ _ _ _ (b .before .before .check-page .ensures) (b .if1 .left) (c .before .before .write-page .result) _ (c .before .before .write-page .ensures)
+returns-2 c = let b = c .before .before .before .before .before .before in page-accepted _ _ _ _ _ _ (b .before .before .check-page .ensures) (b .if1 .left) (c .before .before .prepare-page .result) _ (c .before .before .prepare-page .ensures)
 
 pub page-from-spec : {M : Type 1} → statement M
 page-from-spec =
@@ -35,7 +35,7 @@ page-from-spec =
     refused-requires
     returns
     previous-siblings-requires
-    slice-aggregate-write-page
-    write-page-requires
+    slice-aggregate-prepare-page
+    prepare-page-requires
     same-length
     returns-2)

@@ -13,14 +13,14 @@ sub-last c = search needs
 array-share-prefix-row : tie.Need-array-share-prefix-row
 array-share-prefix-row c = search needs
 
-slice-aggregate-path : tie.Need-slice-aggregate-path
-slice-aggregate-path c = let s = c .before .before .before .before in sym (length-take-le (s .args .k) (s .args .t5) (omega (arith, s .pre .0 .most)))
+slice-aggregate-image : tie.Need-slice-aggregate-image
+slice-aggregate-image c = let s = c .before .before .before .before in sym (length-take-le (s .args .k) (s .args .t6) (omega (arith, s .pre .0 .most)))
 
 full-requires : tie.Need-full-requires
 full-requires c κs = search needs
 
-path-requires : tie.Need-path-requires
-path-requires c κs = let s = c .before .before .before .before .before .before in (record { linked = s .pre .0 .linked; query = s .pre .0 .query (take (s .args .k) (s .args .t5)) (length-take-le (s .args .k) (s .args .t5) (omega (arith, s .pre .0 .most))) (s .pre .1) }, s .pre .0 .path)
+image-requires : tie.Need-image-requires
+image-requires c κs = let s = c .before .before .before .before .before .before in record { ready = record { linked = s .pre .0 .linked; query = s .pre .0 .query (take (s .args .k) (s .args .t6)) (length-take-le (s .args .k) (s .args .t6) (omega (arith, s .pre .0 .most))) (s .pre .1) }; kinds = s .pre .0 .path; few = s .pre .0 .few; five = s .pre .0 .five }
 
 returns : tie.Need-returns
 returns c = search (has-pair, needs)
@@ -31,7 +31,7 @@ satisfies-spec =
     (tie.spec
     sub-last
     array-share-prefix-row
-    slice-aggregate-path
+    slice-aggregate-image
     full-requires
-    path-requires
+    image-requires
     returns)

@@ -10,10 +10,10 @@ use Rattle.answers.proofs.write_page.Statement.{statement}
 use Rattle.answers.proofs.write_page.Tie as tie
 
 abbrev Inv-loop : tie.InvT-loop
-Inv-loop tree prev query k rows₀ room at₀ last₀ count₀ rows at last count = Going k (answers tree query k) last₀ rows₀ at last count rows
+Inv-loop tree prev query plan from to rows₀ k room at₀ last₀ count₀ rows at last count = Going k (answers tree query k) last₀ rows₀ at last count rows
 
 abbrev μ-loop : tie.MeasureT-loop
-μ-loop tree prev query k rows₀ room at₀ last₀ count₀ rows at last count = length rows₀ / k - count
+μ-loop tree prev query plan from to rows₀ k room at₀ last₀ count₀ rows at last count = length rows₀ / k - count
 
 div-room : tie.Need-div-room Inv-loop μ-loop
 div-room c = search needs
@@ -34,19 +34,19 @@ returns : tie.Need-returns Inv-loop μ-loop
 returns c = search (page-full, needs)
 
 mul-write-row : tie.Need-mul-write-row Inv-loop μ-loop
-mul-write-row c = let l = c .before .before .before .before .loop in let s = c .before .before .before .before .before .before .before .before .before .before in record { fits = omega (arith, going-fits (l .inv) (c .before .before .if1 .left), going-length (l .inv), s .good) }
+mul-write-row c = let l = c .before .before .before .before .loop in let s = c .before .before .before .before .before .before .before .before .before .before .before .before in record { fits = omega (arith, going-fits (l .inv) (c .before .before .if1 .left), going-length (l .inv), s .good) }
 
 write-row-requires : tie.Need-write-row-requires Inv-loop μ-loop
-write-row-requires c κs = let l = c .before .before .before .before .loop in let s = c .before .before .before .before .before .before .before .before .before .before in (s .pre .0 .most, going-fits (l .inv) (c .before .before .if1 .left))
+write-row-requires c κs = let l = c .before .before .before .before .loop in let s = c .before .before .before .before .before .before .before .before .before .before .before .before in (s .pre .0 .listed .searchable .most, going-fits (l .inv) (c .before .before .if1 .left))
 
 cursor-at-requires : tie.Need-cursor-at-requires Inv-loop μ-loop
 cursor-at-requires c κs = search needs
 
 add-count : tie.Need-add-count Inv-loop μ-loop
-add-count c = let l = c .before .before .before .before .before .before .before .before .loop in let s = c .before .before .before .before .before .before .before .before .before .before .before .before .before .before in record { fits = omega (arith, going-count (l .inv) (c .before .before .before .before .before .before .if1 .left), s .good) }
+add-count c = let l = c .before .before .before .before .before .before .before .before .loop in let s = c .before .before .before .before .before .before .before .before .before .before .before .before .before .before .before .before in record { fits = omega (arith, going-count (l .inv) (c .before .before .before .before .before .before .if1 .left), s .good) }
 
 answer-after-requires : tie.Need-answer-after-requires Inv-loop μ-loop
-answer-after-requires c κs = let l = c .before .before .before .before .before .before .before .before .loop in let s = c .before .before .before .before .before .before .before .before .before .before .before .before .before .before in (s .pre .0, answers-member (s .args .tree .now) (s .args .query .now) (s .args .k) (rowAt (s .args .k) (l .at)) .0 (going-in (l .inv) (c .before .before .before .before .before .before .before .loop-test .taken)) .1)
+answer-after-requires c κs = let l = c .before .before .before .before .before .before .before .before .loop in let s = c .before .before .before .before .before .before .before .before .before .before .before .before .before .before .before .before in (s .pre .0, answers-member (s .args .tree .now) (s .args .query .now) (s .args .plan .columns) (rowAt (s .args .plan .columns) (l .at)) .0 (going-in (l .inv) (c .before .before .before .before .before .before .before .loop-test .taken)) .1)
 
 loop-less : tie.Need-loop-less Inv-loop μ-loop
 loop-less c = search needs

@@ -2,7 +2,7 @@ use Prim.Native.Nat.{_-_, _≤_}
 use native.Mathlib.Omega.{arith}
 use borrow.Author.Needs.{needs}
 use Rattle.aside.specs.Aside.{CountsTo}
-use Rattle.aside.proofs.Entries.{counts-start, counts-next, counts-end}
+use Rattle.aside.proofs.Numbers.{numbers-start, numbers-next, numbers-end}
 use Rattle.aside.proofs.counts.Statement.{statement}
 use Rattle.aside.proofs.counts.Tie as tie
 
@@ -13,7 +13,7 @@ abbrev μ-loop : tie.MeasureT-loop
 μ-loop query n kept₀ e₀ kept e = n - e
 
 loop-holds : tie.Need-loop-holds Inv-loop μ-loop
-loop-holds c = (omega arith, counts-start _)
+loop-holds c = (omega arith, numbers-start _)
 
 of-entry-requires : tie.Need-of-entry-requires Inv-loop μ-loop
 of-entry-requires c κs = search needs
@@ -28,10 +28,10 @@ loop-less : tie.Need-loop-less Inv-loop μ-loop
 loop-less c = omega arith
 
 loop-again : tie.Need-loop-again Inv-loop μ-loop
-loop-again c = search (counts-next, needs)
+loop-again c = search (numbers-next, needs)
 
 returns : tie.Need-returns Inv-loop μ-loop
-returns c = search (counts-end, needs)
+returns c = search (numbers-end, needs)
 
 pub counts-spec : {M : Type 1} → statement M
 counts-spec =

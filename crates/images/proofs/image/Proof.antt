@@ -1,5 +1,5 @@
 use Rattle.images.proofs.Tables.{image-over}
-use Rattle.images.proofs.Accepted.{image-accepted}
+use Rattle.checks.proofs.Accepted.{image-accepted}
 use Rattle.model.proofs.Refusals.{counts-none, counts-some, written-not}
 use borrow.Author.Needs.{needs}
 use Rattle.images.proofs.image.Statement.{statement}

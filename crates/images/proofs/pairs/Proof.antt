@@ -1,5 +1,5 @@
 use Rattle.images.proofs.Tables.{pairs-over}
-use Rattle.images.proofs.Accepted.{pairs-accepted}
+use Rattle.checks.proofs.Accepted.{pairs-accepted}
 use Rattle.model.proofs.Refusals.{written-not}
 use borrow.Author.Needs.{needs}
 use Rattle.images.proofs.pairs.Statement.{statement}

@@ -1,6 +1,7 @@
 use borrow.Author.Needs.{needs}
 use borrow.Author.Tests.{eqb-true}
-use Rattle.quick.proofs.Opened.{opened-length, opened-searchable, lowest-opened, lowest-last}
+use Rattle.answers.proofs.Opened.{opened-length, opened-searchable}
+use Rattle.quick.proofs.Opened.{lowest-opened, lowest-last}
 use Rattle.quick.proofs.lowest_from.Statement.{statement}
 use Rattle.quick.proofs.lowest_from.Tie as tie
 
@@ -26,10 +27,10 @@ array-share-prefix-table : tie.Need-array-share-prefix-table
 array-share-prefix-table c = search needs
 
 slice-aggregate-lowest-passing : tie.Need-slice-aggregate-lowest-passing
-slice-aggregate-lowest-passing c = opened-length (c .before .before .before .before .before .before .pre .0) _ _ (c .before .«open» .ensures)
+slice-aggregate-lowest-passing c = opened-length (c .before .before .before .before .before .before .pre .0 .listed) _ _ (c .before .«open» .ensures)
 
 lowest-passing-requires-2 : tie.Need-lowest-passing-requires-2
-lowest-passing-requires-2 c κs = let s = c .before .before .before .before .before .before in (opened-searchable (s .pre .0) _ _ (c .before .«open» .ensures), s .pre .1)
+lowest-passing-requires-2 c κs = let s = c .before .before .before .before .before .before in (opened-searchable (s .pre .0 .listed) _ _ (c .before .«open» .ensures), s .pre .1)
 
 returns-2 : tie.Need-returns-2
 returns-2 c = let s = c .before .before .before .before .before .before .before in (lowest-opened (s .pre .0) (s .args .i) _ (s .args .row) (c .before .before .«open» .ensures) _ _ _ (c .lowest-passing2 .ensures .0), c .lowest-passing2 .ensures .1)

@@ -8,10 +8,10 @@ use Rattle.quick.proofs.lowest_passing.Statement.{statement}
 use Rattle.quick.proofs.lowest_passing.Tie as tie
 
 abbrev Inv-loop : tie.InvT-loop
-Inv-loop tree prev query k row i from spent n v₀ evaluations₀ v evaluations = Trying (passes tree query k row i) from (sizeOf tree) v × (evaluations + from ≡ spent + v)
+Inv-loop tree prev query whole k row i from spent n v₀ evaluations₀ v evaluations = Trying (passes tree query k row i) from (sizeOf tree) v × (evaluations + from ≡ spent + v)
 
 abbrev μ-loop : tie.MeasureT-loop
-μ-loop tree prev query k row i from spent n v₀ evaluations₀ v evaluations = n - v
+μ-loop tree prev query whole k row i from spent n v₀ evaluations₀ v evaluations = n - v
 
 loop-holds : tie.Need-loop-holds Inv-loop μ-loop
 loop-holds c = let s = c .before .before .before in (trying-start _ _ _ (s .pre .1 .1 .1 .0), omega arith)

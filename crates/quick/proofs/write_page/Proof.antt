@@ -8,10 +8,10 @@ use Rattle.quick.proofs.write_page.Statement.{statement}
 use Rattle.quick.proofs.write_page.Tie as tie
 
 abbrev Inv-loop : tie.InvT-loop
-Inv-loop tree prev query k rows₀ room at₀ evaluations₀ last₀ count₀ rows at evaluations last count = Written tree query k last₀ rows₀ at evaluations last count rows
+Inv-loop tree prev query whole k rows₀ room at₀ evaluations₀ last₀ count₀ rows at evaluations last count = Written tree query k last₀ rows₀ at evaluations last count rows
 
 abbrev μ-loop : tie.MeasureT-loop
-μ-loop tree prev query k rows₀ room at₀ evaluations₀ last₀ count₀ rows at evaluations last count = length rows₀ / k - count
+μ-loop tree prev query whole k rows₀ room at₀ evaluations₀ last₀ count₀ rows at evaluations last count = length rows₀ / k - count
 
 div-room : tie.Need-div-room Inv-loop μ-loop
 div-room c = search needs
@@ -38,10 +38,10 @@ mul-write-row : tie.Need-mul-write-row Inv-loop μ-loop
 mul-write-row c = let g = c .before .before .before .before .loop .inv .going in record { fits = omega (arith, going-fits g (c .before .before .if1 .left), going-length g, c .before .before .before .before .before .before .before .before .before .before .before .good) }
 
 write-row-requires : tie.Need-write-row-requires Inv-loop μ-loop
-write-row-requires c κs = (c .before .before .before .before .before .before .before .before .before .before .before .pre .0 .searchable .most, going-fits (c .before .before .before .before .loop .inv .going) (c .before .before .if1 .left))
+write-row-requires c κs = (c .before .before .before .before .before .before .before .before .before .before .before .pre .0 .listed .searchable .most, going-fits (c .before .before .before .before .loop .inv .going) (c .before .before .if1 .left))
 
 cursor-at-requires : tie.Need-cursor-at-requires Inv-loop μ-loop
-cursor-at-requires c κs = let s = c .before .before .before .before .before .before .before .before .before .before .before .before .before .before in (s .pre .0 .searchable .least, s .pre .0 .searchable .most)
+cursor-at-requires c κs = let s = c .before .before .before .before .before .before .before .before .before .before .before .before .before .before in (s .pre .0 .listed .searchable .least, s .pre .0 .listed .searchable .most)
 
 add-count : tie.Need-add-count Inv-loop μ-loop
 add-count c = record { fits = omega (arith, going-count (c .before .before .before .before .before .before .before .before .loop .inv .going) (c .before .before .before .before .before .before .if1 .left), c .before .before .before .before .before .before .before .before .before .before .before .before .before .before .before .good) }

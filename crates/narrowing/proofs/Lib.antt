@@ -1,0 +1,4 @@
+pub mod Between
+pub mod Cores
+pub mod Turns
+pub mod Calls
