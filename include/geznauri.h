@@ -36,14 +36,15 @@
  * Threads. No function keeps anything between calls, and there is no global state: calls may run at the same time on any
  * number of threads, with the same tables too, so long as each has its own buffers and cursor.
  *
- * Stack. gz_check_tree, gz_check_query and gz_name take less than 1 KiB; gz_seen, gz_index, gz_descendants, gz_pack, gz_unpack and gz_read,
- * however deep its text nests, take less than 4 KiB. gz_pairs_bits takes less than 56 KiB for every query, so that its stack and a relation
- * of 256 nodes in bits, 8 KiB, take less than the 64 KiB of one in bytes; the worst shape that was measured takes 54,160 bytes, a run of
- * steps, however it is grouped, less than 18 KiB, and a step less than 6 KiB. gz_pairs takes 8 KiB more, less than 64 KiB for every query. The
- * others take less than 70 KiB for every query in which intersects, excepts, stars and sames nest (gz_forwards says when), and for the others
- * by their levels (section 3): of one level gz_forwards and gz_backwards take less than 9 KiB, gz_quick_page 13 and gz_page 14, and all less
- * than 4 KiB for each further level; there are 64 levels at most, so that no call takes 266 KiB. Every call that is told a party keeps
- * the seen tree on its stack, 1 KiB of these.
+ * Stack. gz_check_tree, gz_check_query and gz_name take less than 1 KiB; gz_seen, gz_index, gz_descendants, gz_pack, gz_unpack and
+ * gz_read, however deep its text nests, take less than 4 KiB. gz_pairs_bits takes less than 56 KiB for every query, so that its stack and
+ * a relation of 256 nodes in bits, 8 KiB, take less than the 64 KiB of one in bytes; the worst shape that was measured takes 54,160
+ * bytes, a run of steps, however it is grouped, less than 18 KiB, and a step less than 6 KiB. gz_pairs takes 8 KiB more, less than 64 KiB
+ * for every query. The others take less than 70 KiB for every query in which intersects, excepts, stars and sames nest (gz_forwards says
+ * when), and for the others by their levels (section 3): of one level gz_forwards and gz_backwards take less than 9 KiB, gz_quick_page 13
+ * and gz_page 14, and all less than 4 KiB for each further level; gz_page may take so much for a query that nests too, since what its
+ * variables decide need not nest. There are 64 levels at most, so that no call takes 266 KiB. Every call that is told a party keeps the
+ * seen tree on its stack, 1 KiB of these.
  *
  * Everything is counted from 0. Numbers of tables are in the machine's own byte order.
  *
@@ -194,11 +195,12 @@
  *             printf("bay %u, pallet %u\n", rows[2 * i], rows[2 * i + 1]);
  *     } while (page.more);
  *
- * gz_page tries one row after the other, an evaluation of the query for each; what no variable decides, at the query's ends, is evaluated
- * once a call. Where a row is no answer, and all of its numbers from some variable on are 0, it begins a block, of the rows that have the same
- * numbers before that variable. One evaluation, with the later variables standing for any node, then tells whether the block may be left
- * out; it is made where no later variable stands under a not or right of an except. So a query that holds nowhere is told after two
- * evaluations, whatever its variables, if none of them stands there.
+ * gz_page tries one row after the other, an evaluation for each, of what the variables decide of the query; what is before and behind
+ * that is evaluated once a call for all rows. Where a row is no answer, and all of its numbers from some variable on are 0, it begins a
+ * block, of the rows that have the same numbers before that variable. The largest block is looked at first: one evaluation of the query,
+ * with the later variables standing for any node, tells whether it may be left out; it is made where no later variable stands under a not
+ * or right of an except. So a query that holds nowhere is told after two evaluations, whatever its variables, if none of them stands
+ * there.
  *
  * gz_quick_page finds a row variable by variable: it gives a variable one node after the other, while the variables behind it stand for any
  * node, and one evaluation tells whether an answer begins so. That is exact for the queries that keep this rule, and it refuses the others
@@ -380,9 +382,10 @@
 #include <stdint.h>
 
 /* The version of this header and of the archive that it describes. GZ_VERSION_MAJOR is counted up, and MINOR set to 0, where a
-   program that was written to the header before may break: another reply to the same call, a refusal of what was accepted or the
-   reverse, another type, size or name. GZ_VERSION_MINOR is counted up where something is added and all else is as it was. */
-#define GZ_VERSION_MAJOR 5
+   program that was written to the header before may break: another reply to the same call, a refusal of what was accepted or the reverse,
+   another type, size or name, or more stack for the same call than was promised. GZ_VERSION_MINOR is counted up where something is added
+   and all else is as it was. */
+#define GZ_VERSION_MAJOR 6
 #define GZ_VERSION_MINOR 0
 
 #ifdef __cplusplus
@@ -475,10 +478,10 @@ gz_reply gz_check_query(const uint16_t *query, size_t query_len, uint16_t column
    8 to 20.
    Accepted, the first n bytes of `to` are the image, all later bytes are as they were, and count is the number of nodes in the
    image, 0 to n; refused, all of `to` is as it was.
-   A query without intersect, except, same and stars of paths takes time in proportion to its entries times n, however it nests. A lone
-   intersect or except evaluates its operands once for each start node, and a lone star evaluates its operand until no new node is reached,
-   at most n times. Where one of the four stands inside an operand of another, however far, or there is a same, all pairs of the query are
-   made as by gz_pairs_bits, and the image is read from them: each entry is then evaluated once. */
+   A query without intersect, except, same and stars of paths takes time in proportion to its entries times n, however deep it is. An
+   intersect or except by itself evaluates its operands once for each start node, and a star by itself evaluates its operand until no new
+   node is reached, at most n times. Where one of the four stands inside an operand of another, however far, or there is a same, all pairs
+   of the query are made as by gz_pairs_bits, and the image is read from them: each entry is then evaluated once. */
 gz_image_reply gz_forwards(const uint16_t *tree, size_t tree_len, uint16_t party, const uint16_t *query, size_t query_len,
                            uint16_t columns, const uint16_t *nodes, size_t nodes_len, const uint8_t *from, size_t from_len, uint8_t *to,
                            size_t to_len);
@@ -517,7 +520,8 @@ gz_reply gz_unpack(uint16_t n, const uint64_t *words, size_t words_len, uint8_t 
    many as there are and as there is whole room for; all later numbers are as they were. more is true exactly if there is an
    answer after them. The cursor is at the last row written, with begun 1, its numbers at or above columns as they were; where
    count is 0 all of it is as it was, begun too. Refused, the cursor and all of `rows` are as they were.
-   One evaluation for each row tried, at most n to the power of columns, and one for each block of section 5, which are fewer. */
+   One evaluation for each row tried, at most n to the power of columns, and one for each block that is looked at (section 5), of which
+   there are at most 1 + n + n * n. */
 gz_page_reply gz_page(const uint16_t *tree, size_t tree_len, uint16_t party, const uint16_t *query, size_t query_len, uint16_t columns,
                       gz_cursor *cursor, uint16_t *rows, size_t rows_len);
 

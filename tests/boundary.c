@@ -24,8 +24,8 @@ _Static_assert(offsetof(gz_index_reply, next) == 8 && offsetof(gz_index_reply, t
 _Static_assert(sizeof(gz_cursor) == 8 && offsetof(gz_cursor, begun) == 0 && offsetof(gz_cursor, last) == 2, "gz_cursor");
 _Static_assert(sizeof(gz_part) == 16 && offsetof(gz_part, start) == 0 && offsetof(gz_part, length) == 8, "gz_part");
 _Static_assert(sizeof(bool) == 1 && sizeof(size_t) == 8, "bool and size_t");
-#if GZ_VERSION_MAJOR != 5
-#error "this program is written to version 5.0 of the header"
+#if GZ_VERSION_MAJOR != 6
+#error "this program is written to version 6.0 of the header"
 #endif
 
 #define PATTERN 0xA5
@@ -881,7 +881,7 @@ static void large_images(const char *what, struct lent l)
     }
 }
 
-/* Nested queries of every depth up to 64 entries over a chain, by all four services. Of the pieces over .//. it is told which pairs come out;
+/* Nested queries of several depths, up to 64 entries, over a chain, by all four services. Of the pieces over .//. it is told which pairs come out;
    of mixtures, the images are held against the pairs in bits. Evaluated one start node after the other, the deep ones would take years. */
 static void nested_queries(void)
 {

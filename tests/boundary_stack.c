@@ -2,7 +2,8 @@
    is made, a typed query is read, an index is made or followed, or a relation turned from bytes to bits or back, less than 9 KiB for a
    query of one level, and less than 4 KiB for each further level of nesting; a page takes less than 14 KiB for one level, a quick one less
    than 13, and 4 KiB for each further one. Pairs in bits take so little for every query that stack and table together are smaller than a
-   table of bytes; pairs in bytes take less than 64 KiB for every query, and all else that is asked of a query that nests less than 70.
+   table of bytes; pairs in bytes take less than 64 KiB for every query, and all else that is asked of a query that nests less than 70, but
+   a page may take what its levels allow: what its variables decide need not nest.
    Calls run on a stack that was filled with a pattern; how much of the pattern is gone, less what a thread takes that calls nothing, is
    what the call took. The tree of queries has one node, and of quick pages two: frames are of one size for all trees; for pairs in bits it has
    256, as has what is turned. */
@@ -196,6 +197,12 @@ static size_t limit(size_t levels, size_t one)
     return depth(entries - 1) >= 2 ? NESTING : one * 1024 + (levels - 1) * 4096;
 }
 
+static size_t page_limit(size_t levels)
+{
+    size_t by_levels = 14 * 1024 + (levels - 1) * 4096;
+    return limit(levels, 14) < by_levels ? by_levels : limit(levels, 14);
+}
+
 /* A quick page makes a table in which a variable that stands for any node has one level more. */
 static size_t most_quick, most_page, most_one_page, most_nesting;
 
@@ -204,10 +211,10 @@ static void quick_at_most(const char *what, size_t expected)
     size_t took = taken(quick) - taken(nothing), paged = taken(pages) - taken(nothing);
     printf("%s, %zu levels: %zu bytes for a quick page, %zu for a page\n", what, expected, took, paged);
     most(depth(entries - 1) >= 2 ? &most_nesting : &most_quick, took);
-    most(depth(entries - 1) >= 2 ? &most_nesting : &most_page, paged);
+    most(&most_page, paged);
     if (expected == 1)
         most(&most_one_page, paged);
-    if (levels(entries - 1) != expected || took >= limit(expected, 13) || paged >= limit(expected, 14))
+    if (levels(entries - 1) != expected || took >= limit(expected, 13) || paged >= page_limit(expected))
         wrong = 1;
 }
 
@@ -567,6 +574,21 @@ static void shapes_with_variables(void)
             printf("a variable beside ");
             quick_at_most(pieces[i].name, 2 + added);
         }
+    /* a nest that no variable decides before what they decide, which is as deep as there are entries left */
+    static const size_t flat[] = {0, 1, 2, 3, 4, 9, 10};
+    for (size_t i = 0; i < sizeof flat / sizeof *flat; i++) {
+        entries = 0;
+        entry(0, 0, 0, 65535);
+        entry(0, 0, 0, 65535);
+        entry(14, 0, 1, 0);
+        entry(0, 0, 0, 65535);
+        entry(5, 3, 2, 0);
+        entry(6, 2, 0, 0);
+        size_t added = deepen(&pieces[flat[i]], 63);
+        entry(1, 4, (uint16_t)(entries - 1), 0);
+        printf("behind a nest: ");
+        quick_at_most(pieces[flat[i]].name, added < 2 ? 4 : 2 + added);
+    }
     printf("quick pages at most %zu bytes, pages %zu, and %zu for one level\n", most_quick, most_page, most_one_page);
 }
 

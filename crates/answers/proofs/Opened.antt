@@ -19,7 +19,7 @@ use Rattle.model.specs.Accepted.{Below}
 use Rattle.model.specs.Sharing.{unfilled, Fills}
 use Rattle.model.proofs.Booleans.{no-yes, yes-right}
 use Rattle.opening.specs.Opening.{Opens, openedTable}
-use Rattle.opening.proofs.Opened.{opened-last, opened-sort, opened-entries, opened-evaluable, opened-path}
+use Rattle.opening.proofs.Opened.{opened-few, opened-last, opened-sort, opened-entries, opened-evaluable, opened-path}
 use Rattle.opening.proofs.Aside.{opened-five}
 use Rattle.pruning.specs.Pruning.{Named}
 use Rattle.engines.specs.Engines.{Searchable}
@@ -57,7 +57,7 @@ module _ {t prev q : List ℕ} {k : ℕ} (ok : Listed t prev q k) where
           least = ok .searchable .least;
           most = ok .searchable .most;
           query = λ row e b. opened-evaluable q i r (ok .shaped) o t row (ok .searchable .query row e b);
-          few = omega (arith, size, ok .shaped .few);
+          few = opened-few q i r (ok .shaped) o;
           five = opened-five q i r (ok .shaped) o k named (omega arith) (ok .searchable .path .sort) (ok .searchable .five);
         }
 

@@ -1,12 +1,12 @@
 -- Laws of the way through the rows from answer to answer.
-use Prim.Native.Nat.{ℕ, zero, suc, _<_, _≤_}
+use Prim.Native.Nat.{ℕ, _<_, _≤_}
 use native.Mathlib.Omega.{arith}
 use mathlib.Core.Path.{_≡_, refl, sym, ap, ap₂, _∙_, subst}
 use mathlib.Core.Logic.{_⊎_}
 use mathlib.Core.Bool.{Bool, true, false, not, _&&_, and-comm}
 use mathlib.Core.List.{List, [], _∷_}
 use lib.Dec.{ltb, eqb}
-use lib.ListN.{length, take, replicate}
+use lib.ListN.{length, take}
 use borrow.Author.Tests.{lt-ltb}
 use Rattle.model.specs.declared.Cursor.{Cursor}
 use Rattle.model.specs.Sets.{any, tab, ones, memb, upto, image}
@@ -24,6 +24,7 @@ use Rattle.sets.specs.NodeSets.{always}
 use Rattle.eval.specs.Evaluation.{reached}
 use Rattle.answers.specs.declared.Spot.{Spot}
 use Rattle.answers.specs.Search.{rowAt, ahead, Stands, Heads, EmptyBlock}
+use Rattle.narrowing.proofs.Calls.{zeros}
 use Rattle.answers.proofs.Odometer.{zeros-first}
 use Rattle.answers.proofs.EmptyBlocks.{block-left-out, block-fewer}
 use Rattle.answers.proofs.Paging.{in-after}
@@ -62,13 +63,6 @@ pub heads-itself : {n k : ℕ} {row : List ℕ} → k ≤ 3 → Below n (take k 
 heads-itself few nodes = record { few = few; within = omega arith; nodes = nodes; zeros = λ j l h. absurd (omega arith) }
 
 -- where a cursor goes on
-
-zeros : (k : ℕ) → k ≤ 3 → take {A = ℕ} k (0 ∷ 0 ∷ 0 ∷ []) ≡ replicate k 0
-zeros zero h = refl
-zeros (suc zero) h = refl
-zeros (suc (suc zero)) h = refl
-zeros (suc (suc (suc zero))) h = refl
-zeros (suc (suc (suc (suc k)))) h = absurd (omega arith)
 
 module _ (n k : ℕ) (c : Cursor) where
   pub start-begun : (o : List Row) → o ≡ keep (less (rowOf k c)) (allRows n k) → hasBegun c ≡ true → o ≡ after k (allRows n k) c

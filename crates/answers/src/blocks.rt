@@ -47,8 +47,8 @@ fn goes_on(
 }
 
 // Behind a row that is no answer: the lowest i, from the bound on, such that the row is the first of the block of those that begin with its
-// first i numbers, and that block is empty; with k the block is the row itself. One evaluation for each block that begins with the row, up
-// to that one: at most k.
+// first i numbers, and one evaluation shows that block empty; with k the block is the row itself. One evaluation for each block that begins
+// with the row, up to that one: at most k.
 pub fn empty_block(
     tree: &[u16],
     prev: &[u16],

@@ -1,8 +1,8 @@
 // The answers of a query, page by page (document 01: the pages of a pick list). A call checks all that it is lent, and then
 // looks at the rows after the cursor's, in their order, until it has found one answer more than there is room for. A row is tried by one
-// evaluation of what the variables decide of the query; all else is evaluated once a call (crate `narrowing`). Behind a row that is no
-// answer, whole blocks of rows are left out in which the query cannot hold (module `blocks`). At worst, where no block is left out, n to
-// the power of the number of variables are tried.
+// evaluation of what the variables decide of the query; what stands before and behind that is evaluated once a call for all rows (crate
+// `narrowing`). Behind a row that is no answer, whole blocks of rows are left out in which the query cannot hold (module `blocks`). At
+// worst, where no block is left out, n to the power of the number of variables rows are tried.
 mod blocks;
 mod next;
 mod rows;
@@ -35,7 +35,7 @@ pub struct Spot {
     pub row: [u16; 3],
 }
 
-// How the rows of a page are tried, beside the two sets of nodes that the arrays hold: for so many variables; by whole tables or by sets
+// How the rows of a page are tried, beside the two sets that narrowing makes: for so many variables; by whole tables or by sets
 // (crate `engines`); how many variables must be bound before rows can be left out (crate `pruning`); and the entry of the query that is
 // left, with whether that is evaluated by whole tables, and whether the pairs of it may end at some nodes only (crate `narrowing`).
 struct Plan {
@@ -167,7 +167,7 @@ fn write_page(
     page_of(count, false, last)
 }
 
-// What is left of a query nests, as the query does: where the nest is evaluated once for all rows, a row goes by sets.
+// Whether what is left of a query still nests: where the nest was evaluated once for all rows, a row goes over sets.
 fn still_nests(query: &[u16], whole: bool, entry: usize) -> bool
     requires { ⌜ Formed (now query) × (entriesOf (now query) ≤ 66) ⌝ }
     ensures { λ r. ⌜ r ≡ whole && (ltb entry (entriesOf (now (query .entry))) && deep (now (query .entry)) entry) ⌝ }
@@ -182,7 +182,7 @@ fn still_nests(query: &[u16], whole: bool, entry: usize) -> bool
     nesting::nests_at(query, entry)
 }
 
-// The same, of a query that is looked at once for all rows: which engine evaluates it, what of it no variable decides, and from which
+// The page, of a query that is first looked at once for all rows: which engine evaluates it, what of it no variable decides, and from which
 // variable on blocks can be left out.
 fn prepare_page(
     tree: &[u16],

@@ -3,8 +3,8 @@
 //
 // A path without intersect, except, star and `same` costs O(entries × n), whatever its nesting: every entry is evaluated once, and
 // `some` is one backward image of all nodes. Intersect, except and `same` go over the start nodes one at a time, and a star over
-// at most n images, O(n) times the cost of their operands, which multiplies where they are nested. Sets travel by value, so that a level of calls takes a
-// few KiB of stack, and a query has at most 64 levels.
+// at most n images, O(n) times the cost of their operands, which multiplies where they nest: such queries go to the other engine (crates
+// `nesting`, `engines`). Sets travel by value, so that a level of calls takes a few KiB of stack, and a query has at most 64 levels.
 //
 // Each evaluation tells how many nodes its result has, in a number that it is lent: a set is counted where it is made, and one that
 // is handed on keeps its count. What an operand tells is overwritten.

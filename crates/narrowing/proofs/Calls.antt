@@ -8,9 +8,7 @@ use lib.Dec.{eqb}
 use lib.ListN.{length, take, replicate, length-replicate}
 use Rattle.model.specs.Sets.{any, tab, ones, memb, upto, image}
 use Rattle.model.specs.Tree.{sizeOf, treeOf}
-use Rattle.model.specs.QueryTable.{entriesOf, kind, pathAt, exprAt}
-use Rattle.model.specs.Kinds.{isPath}
-use Rattle.model.specs.Encoding.{exprTerm}
+use Rattle.model.specs.QueryTable.{entriesOf, pathAt, exprAt}
 use Rattle.model.specs.Meaning.{pairs, holds}
 use Rattle.model.specs.Results.{assigned, related}
 use Rattle.model.specs.Answers.{Row, satisfied}
@@ -22,10 +20,7 @@ use Rattle.sets.specs.NodeSets.{combination, combine}
 use Rattle.sets.proofs.Images.{upto-cong, image-turned, image-from}
 use Rattle.eval.specs.Evaluation.{Ready, passing, passed, reached}
 use Rattle.eval.proofs.Entries.{small}
-use Rattle.aside.specs.Aside.{termAt}
-use Rattle.aside.proofs.Terms.{term-path}
-use Rattle.pruning.specs.Pruning.{reachIn}
-use Rattle.pruning.proofs.Fixed.{fixed-pairs, fixed-holds}
+use Rattle.pruning.proofs.Fixed.{fixed-path, fixed-expr}
 use Rattle.engines.specs.Engines.{Suits, Searchable}
 use Rattle.narrowing.specs.Narrowing.{Core, Decided, AlwaysReached, AlwaysPassed, common}
 use Rattle.narrowing.proofs.Between.{common-cong, common-all, by-image, by-none}
@@ -49,21 +44,17 @@ module _ {t v q : List ℕ} {k e : ℕ} {path : Bool} (d : Decided t v q k e pat
     five = d .five;
   })
 
-term-expr : (q : List ℕ) (e : ℕ) → isPath (kind q e) ≡ false → termAt q e ≡ exprTerm (exprAt q e)
-unfolding termAt
-term-expr q e h = rw h
-
 pub always-reached : {t v q : List ℕ} {k e : ℕ} (back : Bool) (from r nodes : List ℕ) → r ≡ reached t q nodes e back from → Decided t v q k e true → AlwaysReached t q e back from r
 unfolding reached related
 always-reached {t = t} {q = q} {e = e} back from r nodes p d row =
     p ∙ image-turned (sizeOf t) (d .searchable .linked .tree .sound .at-most) back (pairs (treeOf t) (assigned nodes) (pathAt q e)) (pairs (treeOf t) (assigned row) (pathAt q e)) (memb from)
-    (λ x y a b. fixed-pairs (treeOf t) (assigned nodes) (assigned row) (pathAt q e) (ap reachIn (sym (term-path q e (d .kinds .sort))) ∙ d .fixed) x y)
+    (λ x y a b. fixed-path (treeOf t) (assigned nodes) (assigned row) q e (d .kinds .sort) (d .fixed) x y)
 
 pub always-passed : {t v q : List ℕ} {k e : ℕ} (r nodes : List ℕ) → r ≡ passed t q nodes e → Decided t v q k e false → AlwaysPassed t q e r
 unfolding passed passing
 always-passed {t = t} {q = q} {e = e} r nodes p d row =
     p ∙ upto-cong (sizeOf t) (d .searchable .linked .tree .sound .at-most) (holds (treeOf t) (assigned nodes) (exprAt q e)) (holds (treeOf t) (assigned row) (exprAt q e))
-    (λ x l. fixed-holds (treeOf t) (assigned nodes) (assigned row) (exprAt q e) (ap reachIn (sym (term-expr q e (d .kinds .sort))) ∙ d .fixed) x)
+    (λ x l. fixed-expr (treeOf t) (assigned nodes) (assigned row) q e (d .kinds .sort) (d .fixed) x)
 
 -- sets that are lent
 

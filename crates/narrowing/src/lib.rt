@@ -1,9 +1,9 @@
 // The part of a query that its variables decide. A query is satisfied under a row exactly if some pair of its core, a path within it,
 // leads from one set of nodes to another: the sets are made once for all rows, and for a row there is the core alone to evaluate.
 //
-// What it costs: `narrow` evaluates no entry more than once, which comes to about one evaluation of the query at most. A row is then one
-// evaluation of the core; where no variable stands in the query, there is no core, and the two sets are compared. Which of the two
-// engines evaluates, `whole` says, which is handed on.
+// What it costs: `narrow` asks for no entry more than once, which comes to about one evaluation of the query at most. A row is then one
+// evaluation of the core; where no variable stands in the query, there is no core, and the two sets are compared. `whole`, which
+// the caller decides, says which engine evaluates.
 ghost use mathlib.Core.Path.{_≡_};
 ghost use mathlib.Core.Bool.{true, false};
 ghost use Prim.Native.Nat.{_≤_};

@@ -1,5 +1,5 @@
--- How deep those kinds of entries nest in a query that the engine over sets evaluates up to n times, as far as the choice between the two
--- engines asks: not at all, once, or more often.
+-- How deep intersect, except, star and `same` nest in a query, as far as the choice between the two engines asks: not at all, once, or
+-- more often. The engine over sets evaluates their operands up to n times.
 use Prim.Native.Nat.{ℕ, _+_, min, max}
 use mathlib.Core.Bool.{Bool, _||_, cond}
 use mathlib.Core.List.{List}
@@ -23,10 +23,10 @@ depthIn (Term.binary k a b) = min 2 (weight k + max (depthIn a) (depthIn b))
 abbrev pub depthAt : List ℕ → ℕ → ℕ
 depthAt q e = depthIn (termAt q e)
 
--- it is two deep or deeper
+-- the entry is two deep or deeper
 abbrev pub deep : List ℕ → ℕ → Bool
 deep q e = eqb (depthAt q e) 2
 
--- the query is
+-- the query is, by its last entry
 abbrev pub nested : List ℕ → Bool
 nested q = deep q (lastOf q)

@@ -5,7 +5,7 @@
 // Why: over sets, an intersect or except goes over its start nodes one by one, and a star takes up to n rounds, so that each that stands
 // inside another multiplies the time by n; over tables every entry is made once, whatever it stands in. One that stands in no other is
 // cheaper over sets where it starts from few nodes, as most do. A `same` goes over all start nodes whatever it is asked, so that tables
-// are always cheaper for it, 8 µs against 119 at 256 nodes: it counts for two.
+// are cheaper for it, ten times at 256 nodes: it counts for two.
 //
 // Cost: one pass, a few operations an entry.
 ghost use mathlib.Core.Path.{_≡_};
@@ -84,7 +84,7 @@ pub fn nests_at(query: &[u16], x: usize) -> bool
     depths[x] == 2
 }
 
-// The query is.
+// The query is two deep or deeper.
 pub fn nests(query: &[u16]) -> bool
     requires { ⌜ Formed (now query) × ((entriesOf (now query) ≤ 66) × (0 < entriesOf (now query))) ⌝ }
     ensures { λ r. ⌜ r ≡ nested (now (query .entry)) ⌝ }

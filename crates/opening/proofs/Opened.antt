@@ -76,25 +76,6 @@ module _ (q : List ℕ) (i : ℕ) (r : List ℕ) (ok : Shaped q) (o : Opens q i 
   pub opened-sort : (e : ℕ) → e < entriesOf q → {b : Bool} → isPath (kind q e) ≡ b → isPath (kind T (2 + e)) ≡ b
   opened-sort e l h = same-sort e l ∙ h
 
-  -- a variable that it names is one that the query names
-  pub opened-named : (m : ℕ) → ((e : ℕ) → e < entriesOf q → namesVariable (kind q e) ≡ true → left q e < m)
-      → (e : ℕ) → e < entriesOf T → namesVariable (kind T e) ≡ true → left T e < m
-  unfolding movedEntry namesVariable
-  opened-named m named e within = at e (omega (arith, opened-entries))
-    where
-      go : (e : ℕ) → e < entriesOf q → Stands i (entry q e) (entry T (2 + e)) → namesVariable (kind T (2 + e)) ≡ true → left T (2 + e) < m
-      go e l (path! k b p) h = no-yes (ap (λ (f : Entry). namesVariable (f .kind)) p) h
-      go e l (expr! k b p) h = no-yes (ap (λ (f : Entry). namesVariable (f .kind)) p) h
-      go e l (moved! b p) h =
-          let names : namesVariable (kind q e) ≡ true = sym (ap (λ (f : Entry). namesVariable (f .kind)) p) ∙ h in
-          let same : left T (2 + e) ≡ left q e = ap (λ (f : Entry). f .left) p ∙ rw (named-leaf (kind q e) names) in
-          omega (arith, named e l names)
-
-      at : (e : ℕ) → e < entriesOf q + 2 → namesVariable (kind T e) ≡ true → left T e < m
-      at zero l h = no-yes (ap (λ (f : Entry). namesVariable (f .kind)) at-zero) h
-      at (suc zero) l h = no-yes (ap (λ (f : Entry). namesVariable (f .kind)) at-one) h
-      at (suc (suc e)) l h = subst (λ (x : ℕ). namesVariable (kind T x) ≡ true → left T x < m) (let g : 2 + e ≡ suc (suc e) = omega arith in g) (go e (omega arith) (form e (omega arith))) h
-
   -- operands move with their entry
 
   path-behind : (e x : ℕ) → e < entriesOf q → PathBefore q e x → PathBefore T (2 + e) (2 + x)

@@ -29,7 +29,8 @@ fn check_pairs(
 
 // All pairs of the query, a bit a pair: four words a row, the lowest word and bit first, bits at and beyond n 0. A step costs a few
 // passes over the n rows, and so does a filter; a set operation and a `same` one pass over the words; a star at most n passes over them;
-// two tables are composed only where a set operation or a star stands left in a composition, in four words for each pair of the left one.
+// two tables are composed only where a set operation or a star stands left in a composition, or where there is no room to apply the left
+// operand, in four words for each pair of the left one.
 pub fn pairs(
     tree: &[u16],
     query: &[u16],

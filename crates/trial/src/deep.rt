@@ -1,4 +1,4 @@
-// Deep queries: images and pairs, as bytes and as bits, compared with the reference evaluator. The engine over sets is not asked for them:
+// Deep queries: images and pairs, as bytes and as bits, compared with the reference evaluator. Their pairs are not asked of the engine over sets:
 // each set operation, closure and `same` that stands in another takes it n times as long.
 use super::bit_pairs;
 use super::call;
