@@ -565,7 +565,34 @@ fn main() {
     assert_eq!(descendants(&WAREHOUSE, &next[..6], 4, 3, &mut set[..5]), no_image(20, 0));
     assert_eq!(set, [7; 8]);
 
+    nested();
     two_firms();
+}
+
+// Queries that nest: Q <- (.//./Q) intersect .//., fifteen deep, has the pairs of .//. A page leaves out blocks of rows: of self::9, which holds
+// nowhere, all of them; of descendant::2[. is $0]/child::3 intersect $1, which no quick page takes, the rows of nodes that are no bay.
+fn nested() {
+    let mut query = vec![0, 11, 0, 65534];
+    for level in 0..15u16 {
+        let path = 4 * level;
+        query.extend([0, 11, 0, 65534, 1, path + 1, path, 0, 0, 11, 0, 65534, 3, path + 2, path + 3, 0]);
+    }
+    let mut set = [7; 8];
+    assert_eq!(image(gz_forwards, &query, &[], &[0, 1, 0, 0, 0, 1], &mut set), ImageReply { number: 0, place: 0, count: 4 });
+    assert_eq!(set, [0, 1, 1, 1, 0, 1, 7, 7]);
+    assert_eq!(image(gz_backwards, &query, &[], &[0, 0, 0, 1, 0, 0], &mut set), ImageReply { number: 0, place: 0, count: 3 });
+    assert_eq!(set, [1, 1, 0, 1, 0, 0, 7, 7]);
+    let (mut cells, mut below) = ([7; 38], [7; 38]);
+    assert_eq!((pairs(&query, &[], &mut cells), pairs(&BELOW, &[], &mut below)), (ACCEPTED, ACCEPTED));
+    assert_eq!(cells, below);
+
+    let (mut cursor, mut rows) = (Cursor { begun: 0, last: [9; 3] }, [7; 8]);
+    let fresh = Cursor { begun: 0, last: [9; 3] };
+    assert_eq!(page(&[0, 0, 0, 9], 3, &mut cursor, &mut rows), PageReply { number: 0, place: 0, count: 0, more: false });
+    assert_eq!((cursor, rows), (fresh, [7; 8]));
+    let bays = [0, 5, 0, 2, 12, 0, 0, 0, 5, 0, 1, 0, 0, 1, 0, 3, 1, 2, 3, 0, 6, 1, 0, 0, 3, 4, 5, 0];
+    assert_eq!(page(&bays, 2, &mut cursor, &mut rows), PageReply { number: 0, place: 0, count: 3, more: false });
+    assert_eq!((cursor, rows), (Cursor { begun: 1, last: [4, 5, 9] }, [1, 2, 1, 3, 4, 5, 7, 7]));
 }
 
 // Each party over one table, the other's nodes hidden, and what is refused of table and party before all else.
