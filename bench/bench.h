@@ -45,7 +45,7 @@ struct engine {
 #ifdef __cplusplus
 extern "C" {
 #endif
-extern const struct engine libxml2_engine, pugixml_engine, geznauri_engine, index_engine;
+extern const struct engine libxml2_engine, pugixml_engine, geznauri_engine, backwards_engine, reversed_engine, index_engine;
 void give_up(const char *why);
 
 /* Compares the engines on all queries, times them, and prints a table in Markdown (timing.c). */

@@ -1,9 +1,9 @@
 #!/usr/bin/env python3
 """Writes what the benchmark runs on to a folder: tree.xml, and tables.h with the same tree as a table, the queries as text
 and as tables, and the nodes that each query reaches from each node, worked out by tests/support/reference.py; searches for
-descendants with a tag, as queries; queries whose pairs are all asked for; and the tree's index and the list of its tags. The tree
-stands there once more as a shared table, with all nodes common, and once with half of its nodes hidden from party 1. Queries with
-variables stand there with all their answers.
+descendants with a tag, as queries; queries whose pairs are all asked for; the first queries once more, turned round; and the tree's
+index and the list of its tags. The tree stands there once more as a shared table, with all nodes common, and once with half of its
+nodes hidden from party 1. Queries with variables stand there with all their answers.
 
     generate.py [--different] FOLDER [NODES [SEED]]
 
@@ -162,6 +162,36 @@ RELATIONS = [
 ] + [(axis + "::*", {"right": "following-sibling::*[1]", "left": "preceding-sibling::*[1]"}.get(axis, ALIKE), step(axis)) for axis in AXES]
 
 
+# A query turned round, in XPath 1.0: the run that the definition of document 02 gives, kind by kind. With elements alone the star is
+# node(); it also leaves out the node above the root element. The star of a path has words only where one axis says the same.
+
+def written(entries, e):
+    """An entry as XPath 1.0."""
+    kind, left, right, tag = entries[e]
+    if kind == 0:
+        return "%s::%s" % (AXES[left], "*" if tag > 65533 else "t%d" % tag)
+    operands = [written(entries, operand) for operand in (left, right)[: 1 + (kind in RIGHT)]]
+    if kind == 14:
+        return meet(*operands)
+    return {1: "%s/%s", 5: "%s[%s]", 8: "%s", 9: "not(%s)", 10: "%s and %s", 11: "%s or %s"}[kind] % tuple(operands)
+
+
+def turned(entries, e):
+    """The steps of an entry, turned round."""
+    kind, left, right, tag = entries[e]
+    if kind == 0:
+        converse = left and left - 1 + left % 2 * 2
+        return [written(step("self", tag), 0), AXES[converse] + "::*"]
+    if kind == 1:
+        return turned(entries, right) + turned(entries, left)
+    if kind == 5:
+        return ["self::*[%s]" % written(entries, right)] + turned(entries, left)
+    if kind == 7:
+        return turned(entries, left) + ["self::*[not(parent::*)]", "descendant-or-self::*"]
+    assert entries == star(step("child"))
+    return ["ancestor-or-self::*"]
+
+
 # Queries that nest: how a level is written and made of the one below it, which is Q there, the levels in turn; the one below the first;
 # and whether XPath 2.0 has words for it, which has neither star nor same.
 UP_OR_DOWN = union(step("ancestor"), step("descendant"))
@@ -224,6 +254,12 @@ LONG_RUN = ("following::t2/preceding::t3/ancestor::*/following-sibling::t5/desce
             [step("following", 2), step("preceding", 3), step("ancestor"), step("following-sibling", 5), step("descendant", 1),
              step("preceding", 4)])
 SAME_BEFORE = ("descendant::*[child::* same descendant::t3]", only(step("descendant"), same(step("child"), step("descendant", 3))))
+
+
+def turn(tree, ours, theirs, entries):
+    """A query to be turned round: its steps so in XPath 1.0, and to begin with the lowest node that it reaches."""
+    reached = image(relation(tree, flat(entries)), 1)
+    return ours, "/".join(turned(entries, len(entries) - 1)), entries, (reached & -reached).bit_length() - 1
 
 
 def lists(tree):
@@ -332,15 +368,15 @@ def flat(entries):
     return [number for entry in entries for number in entry]
 
 
-def query_array(name, tree, queries):
-    """An array of queries, each with its start, and the tables that it names."""
+def query_array(name, tree, queries, back=False):
+    """An array of queries, each with its start, and the tables that it names; where asked, with the nodes that reach each node."""
     text, rows, n = "", [], tree.n
     for k, (ours, theirs, entries, start) in enumerate(queries):
         xpath = '"%s"' % (ours if theirs is ALIKE else theirs) if theirs else "NULL"
         numbers = flat(entries)
-        reached = relation(tree, numbers)
-        text += array("uint16_t", "%s_table%d" % (name, k), numbers)
-        text += array("uint8_t", "%s_reached%d" % (name, k), [reached[x] >> y & 1 for x in range(n) for y in range(n)])
+        pairs = relation(tree, numbers)
+        reached = [pairs[y] >> x & 1 if back else pairs[x] >> y & 1 for x in range(n) for y in range(n)]
+        text += array("uint16_t", "%s_table%d" % (name, k), numbers) + array("uint8_t", "%s_reached%d" % (name, k), reached)
         rows.append('    {"%s", %s, %s_table%d, %d, %s_reached%d, %d},\n' % (ours, xpath, name, k, len(numbers), name, k, start))
     return text + "static const struct query %s[] = {\n%s};\n" % (name, "".join(rows))
 
@@ -381,7 +417,8 @@ def header(table):
     text += array("uint16_t", "halved", half) + array("uint16_t", "due_seen", seen(half, 1))
     text += array("uint16_t", "due_next", due_next) + array("uint16_t", "due_tags", due_tags)
     text += query_array("queries", tree, [(*query, 0) for query in QUERIES]) + query_array("searches", tree, searches(table))
-    return text + query_array("whole", tree, [(*query, 0) for query in RELATIONS]) + list_array(tree)
+    text += query_array("whole", tree, [(*query, 0) for query in RELATIONS]) + list_array(tree)
+    return text + query_array("turns", tree, [turn(tree, *query) for query in QUERIES], True)
 
 
 def write(name, text):

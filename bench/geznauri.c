@@ -1,5 +1,6 @@
-/* This engine, over its C boundary, for party 1: every call is lent the tables, and checks the tree and the query anew. Twice: queries,
-   and the descendants with a tag by the index of the tree, which is made once. */
+/* This engine, over its C boundary, for party 1: every call is lent the tables, and checks the tree and the query anew. Four times:
+   queries; the same backwards, and forwards over the reversed query, which is made once; and the descendants with a tag by the index of
+   the tree, which is made once. */
 #include "bench.h"
 #include "geznauri.h"
 
@@ -39,6 +40,32 @@ static void found(uint8_t *set)
 }
 
 const struct engine geznauri_engine = {"this engine", open_document, compile, call, found};
+
+static void call_backwards(size_t start)
+{
+    from[last] = 0;
+    from[start] = 1;
+    last = start;
+    reply = gz_backwards(table, 3 * count, 1, current->table, current->length, 0, NULL, 0, from, count, to, count);
+}
+
+const struct engine backwards_engine = {"this engine backwards", open_document, compile, call_backwards, found};
+
+/* The query turned round. */
+static uint16_t reversed[256];
+static struct query turned;
+
+static void compile_reversed(const struct query *query)
+{
+    gz_made_reply made = gz_reverse(query->table, query->length, 0, reversed, 256);
+    if (made.number != 0)
+        give_up("this engine does not reverse a query");
+    turned.table = reversed;
+    turned.length = made.count;
+    current = &turned;
+}
+
+const struct engine reversed_engine = {"reversed, forwards", open_document, compile_reversed, call, found};
 
 static void open_indexed(const char *xml, const uint16_t *tree, size_t n)
 {

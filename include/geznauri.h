@@ -2,27 +2,28 @@
  * Geznauri: queries over small trees, for C.
  *
  * The engine answers Core XPath queries with intersect, except, stars of paths and node variables over trees of up to 256 nodes. Trees and
- * queries are lent to it as tables of 16-bit numbers, and gz_read makes the table of a query that is typed. Two parties may share one
- * tree table: each sees its own nodes and the common ones, as a tree by themselves, and a call is made for one of the two. gz_index makes
- * the index of a tree, by which gz_descendants finds the descendants with a tag. All pairs of a query are given a byte a pair by gz_pairs,
- * and a bit a pair by gz_pairs_bits. The answers of a query with variables are given a page at a time by gz_page, and by gz_quick_page
- * with far fewer evaluations where the query keeps a rule. This page describes them, every function, and every reply.
+ * queries are lent to it as tables of 16-bit numbers, and gz_read makes the table of a query that is typed. gz_reverse makes the table of a
+ * query turned round, which has the same pairs, swapped. Two parties may share one tree table: each sees its own nodes and the common ones,
+ * as a tree by themselves, and a call is made for one of the two. gz_index makes the index of a tree, by which gz_descendants finds the
+ * descendants with a tag. All pairs of a query are given a byte a pair by gz_pairs, and a bit a pair by gz_pairs_bits. The answers of a
+ * query with variables are given a page at a time by gz_page, and by gz_quick_page with far fewer evaluations where the query keeps a rule.
+ * This page describes them, every function, and every reply.
  *
  * To link: `./build` writes target/staticlib/libterminal.a, for x86-64 Linux.
  *
  *     cc -I include program.c target/staticlib/libterminal.a
  *
- * The archive defines the functions of section 11 and no other global symbol. It needs two functions of the C library, which
- * compilers call of their own accord: memcpy, memset. It has less than 112 KiB of code and constants, and has no variables.
+ * The archive defines the functions of section 12 and no other global symbol. It needs two functions of the C library, which
+ * compilers call of their own accord: memcpy, memset. It has less than 116 KiB of code and constants, and has no variables.
  *
  * Contents:  1 For every call   2 Tree table and parties   3 Query table   4 Node sets and relations   5 Answers, pages, cursors
- *            6 Name tables   7 Typed queries   8 Indexes   9 Numbers of refusal   10 Types   11 Functions
+ *            6 Name tables   7 Typed queries   8 Reversed queries   9 Indexes   10 Numbers of refusal   11 Types   12 Functions
  *
  *
  * 1  FOR EVERY CALL
  *
  * Any contents are taken: every number and byte that is lent may hold any value. Each function checks all that it is lent, in
- * every call (of an index, what it reads); what it cannot take it refuses by number and place (section 9). A refused call writes
+ * every call (of an index, what it reads); what it cannot take it refuses by number and place (section 10). A refused call writes
  * nothing, but for gz_name, which then hands back an empty part. There are no errors of any other kind: every call returns, sets no
  * errno, takes no memory from the heap and makes no system call.
  *
@@ -36,15 +37,15 @@
  * Threads. No function keeps anything between calls, and there is no global state: calls may run at the same time on any
  * number of threads, with the same tables too, so long as each has its own buffers and cursor.
  *
- * Stack. gz_check_tree, gz_check_query and gz_name take less than 1 KiB; gz_seen, gz_index, gz_descendants, gz_pack, gz_unpack and
- * gz_read, however deep its text nests, take less than 4 KiB. gz_pairs_bits takes less than 56 KiB for every query, so that its stack and
- * a relation of 256 nodes in bits, 8 KiB, take less than the 64 KiB of one in bytes; the worst shape that was measured takes 54,160
- * bytes, a run of steps, however it is grouped, less than 18 KiB, and a step less than 6 KiB. gz_pairs takes 8 KiB more, less than 64 KiB
- * for every query. The others take less than 70 KiB for every query in which intersects, excepts, stars and sames nest (gz_forwards says
- * when), and for the others by their levels (section 3): of one level gz_forwards and gz_backwards take less than 9 KiB, gz_quick_page 13
- * and gz_page 14, and all less than 4 KiB for each further level; gz_page may take so much for a query that nests too, since what its
- * variables decide need not nest. There are 64 levels at most, so that no call takes 266 KiB. Every call that is told a party keeps the
- * seen tree on its stack, 1 KiB of these.
+ * Stack. gz_check_tree, gz_check_query and gz_name take less than 1 KiB; gz_seen, gz_index, gz_descendants, gz_pack, gz_unpack and gz_read,
+ * however deep its text nests, take less than 4 KiB. gz_reverse takes less than 32 KiB for every query; the worst shape that was measured,
+ * of 64 levels, takes 28,384 bytes. gz_pairs_bits takes less than 56 KiB for every query, so that its stack and a relation of 256 nodes in
+ * bits, 8 KiB, take less than the 64 KiB of one in bytes; the worst shape that was measured takes 54,160 bytes, a run of steps, however it
+ * is grouped, less than 18 KiB, and a step less than 6 KiB. gz_pairs takes 8 KiB more, less than 64 KiB for every query. The others take
+ * less than 70 KiB for every query in which intersects, excepts, stars and sames nest (gz_forwards says when), and for the others by their
+ * levels (section 3): of one level gz_forwards and gz_backwards take less than 9 KiB, gz_quick_page 13 and gz_page 14, and all less than 4
+ * KiB for each further level; gz_page may take so much for a query that nests too, since what its variables decide need not nest. There are
+ * 64 levels at most, so that no call takes 266 KiB. Every call that is told a party keeps the seen tree on its stack, 1 KiB of these.
  *
  * Everything is counted from 0. Numbers of tables are in the machine's own byte order.
  *
@@ -286,7 +287,48 @@
  *     child::shelf                  25 at 7: no tag has the name
  *
  *
- * 8  INDEXES
+ * 8  REVERSED QUERIES
+ *
+ * gz_reverse makes the query table of a query turned round. On every tree and under every assignment the reversed query has the pair (y, x)
+ * exactly if the query has (x, y). So gz_forwards over it replies and writes what gz_backwards does over the query, and the reverse; the
+ * answers are the query's own; and gz_quick_page takes either if it takes the other. It is made of the query's parts, the innermost first.
+ * With a' for a reversed:
+ *
+ *     kind                typed          reversed                                                                    entries
+ *      0  step            axis::test     self::test/converse::node()                                                 3
+ *      1  compose         a/b            b'/a'                                                                       a', b' and 1
+ *      2  union           a union b      a' union b'                                                                 a', b' and 1
+ *      3  intersect       a intersect b  a' intersect b'                                                             a', b' and 1
+ *      4  except          a except b     a' except b'                                                                a', b' and 1
+ *      5  filter          a[t]           self::node()[t]/a'                                                          a', t and 3
+ *      6  variable        $0             self::node()[. is $0]/ancestor-or-self::node()/descendant-or-self::node()   7
+ *      7  from the root   /a             a'/self::node()[not(parent::node())]/descendant-or-self::node()             a' and 8
+ *     13  star of a path  (a)*           (a')*                                                                       a' and 1
+ *
+ * Runs group leftwards, and a reversed operand is one step of them, as if it stood in brackets. A node expression t is copied: the paths
+ * in it are not reversed. Child and parent are each other's converse, and so are right and left, descendant and ancestor, following and
+ * preceding, following-sibling and preceding-sibling, descendant-or-self and ancestor-or-self; self is its own. Entries stand as those of
+ * a typed query, in whatever order the lent table has them.
+ *
+ * child::2[child::3], the bays that hold a pallet, becomes self::node()[child::3]/(self::2/parent::node()):
+ *
+ *     uint16_t reversed[] = {
+ *         0, 0, 0, 65534,  entry 0   self::node()
+ *         0, 1, 0, 3,      entry 1   child::3
+ *         8, 1, 0, 0,      entry 2   some of entry 1
+ *         5, 0, 2, 0,      entry 3   entry 0 filtered by entry 2
+ *         0, 0, 0, 2,      entry 4   self::2
+ *         0, 2, 0, 65534,  entry 5   parent::node()
+ *         1, 4, 5, 0,      entry 6   entry 4 composed with entry 5
+ *         1, 3, 6, 0,      entry 7   entry 3 composed with entry 6
+ *     };
+ *
+ * A reversed query has more entries than the query, and is refused (26) if it has more than 64. k steps composed, 2 k - 1 entries, become
+ * 4 k - 1: 16 steps can be reversed, into 63 entries, and 17 cannot. A query that is reversed twice has its own pairs again, but not its
+ * own entries: child::3 becomes self::3/parent::node(), and that becomes (self::node()/child::node())/(self::3/self::node()).
+ *
+ *
+ * 9  INDEXES
  *
  * The index of a seen tree is n numbers: for each node the next later node that has the same tag, or 65535 where there is none. Beside
  * it stands the list of the tags: three numbers for each tag that some node has, by rising tag: the tag, the first node that has
@@ -316,14 +358,14 @@
  *     0                  1                       {}             no node after node 0 has tag 1
  *
  *
- * 9  NUMBERS OF REFUSAL
+ * 10  NUMBERS OF REFUSAL
  *
  * A reply has number 0 and place 0 if the call is accepted. Else number says what is wrong and place where. Checks are made
  * in the order of the numbers, each over all that it looks at before the next begins; the first that fails is the reply, at
- * the lowest place that is at fault. But 30 and 31, of the shared table and the party, come straight after 7, in every function; and four
- * functions have another order: gz_read 21, 23, 24, 25, 26, 20, gz_descendants 5, 6, 7, 30, 31, 36, 27, 20, gz_unpack 5, 18, 28, 20, and
- * gz_quick_page, which has 29 between 15 and 17. Each function makes the checks that its description in section 11 names. n is that of
- * the seen tree, and so are nodes that are lent; the places of 6, 7 and 30 are nodes of the shared table.
+ * the lowest place that is at fault. But 30 and 31, of the shared table and the party, come straight after 7, in every function; and five
+ * functions have another order: gz_read 21, 23, 24, 25, 26, 20, gz_reverse 8 to 15, 26, 20, gz_descendants 5, 6, 7, 30, 31, 36, 27, 20,
+ * gz_unpack 5, 18, 28, 20, and gz_quick_page, which has 29 between 15 and 17. Each function makes the checks that its description in
+ * section 12 names. n is that of the seen tree, and so are nodes that are lent; the places of 6, 7 and 30 are nodes of the shared table.
  *
  *      number   refused because                                                             place
  *       5       the tree table is empty, its length no multiple of three, or longer than    0
@@ -350,8 +392,8 @@
  *               4 n words, long
  *      19       a byte of the node set, or of the relation, is above 1                      the byte
  *      20       a buffer has room for less than n bytes, n * n bytes, 4 n words, one        0
- *               row, the seen tree, the table of the typed query, the index, or the
- *               list of the tags
+ *               row, the seen tree, the table of the typed or of the reversed query, the
+ *               index, or the list of the tags
  *      21       a name table has a length byte of 0 or above 32, or a name that runs        0 the house's,
  *               past its end                                                                1 the site's
  *      22       the tag is above 65533 or has no name                                       0
@@ -361,7 +403,7 @@
  *                                                                                           from the bytes before it, or
  *                                                                                           the text's length
  *      25       a typed name is the name of no tag up to 65533                              the name's first byte
- *      26       the typed query has more than 64 entries                                    0
+ *      26       the typed or the reversed query has more than 64 entries                    0
  *      27       the index is not n numbers long                                             0
  *               a number that the chain reads is not 65535, and is not later than the       the node at which it
  *               node at which it is read, not below n, or of another tag                    is read
@@ -386,13 +428,13 @@
    another type, size or name, or more stack for the same call than was promised. GZ_VERSION_MINOR is counted up where something is added
    and all else is as it was. */
 #define GZ_VERSION_MAJOR 6
-#define GZ_VERSION_MINOR 0
+#define GZ_VERSION_MINOR 1
 
 #ifdef __cplusplus
 extern "C" {
 #endif
 
-/* 10  TYPES */
+/* 11  TYPES */
 
 /* The reply to a call: 0 and 0, or the number and the place of a refusal. */
 typedef struct {
@@ -406,7 +448,8 @@ typedef struct {
     size_t count;
 } gz_image_reply;
 
-/* The reply to the making of a seen tree: number and place as above, and how many numbers the tree has. Of a refused call, count is 0. */
+/* The reply to the making of a seen tree or of a reversed query: number and place as above, and how many numbers the tree or the table
+   has. Of a refused call, count is 0. */
 typedef struct {
     uint16_t number, place;
     size_t count;
@@ -458,7 +501,7 @@ typedef struct {
     size_t length;
 } gz_part;
 
-/* 11  FUNCTIONS */
+/* 12  FUNCTIONS */
 
 /* The check of a shared tree table: refusals 5, 6, 7 and 30. Time in proportion to tree_len. */
 gz_reply gz_check_tree(const uint16_t *tree, size_t tree_len);
@@ -546,6 +589,12 @@ gz_reply gz_name(const uint8_t *house, size_t house_len, const uint8_t *site, si
    the name tables, and one more for each name typed. */
 gz_read_reply gz_read(const uint8_t *text, size_t text_len, const uint8_t *house, size_t house_len, const uint8_t *site,
                       size_t site_len, uint16_t *query, size_t query_len);
+
+/* The query table of the query turned round (section 8). out_len is four times the reversed query's entries or more; 256 numbers have room
+   for every table. Refusals 8 to 15, 26 and 20, in this order: the query and columns, the reversed query's entries, the buffer's room.
+   Accepted, the table is the first count numbers of `out`, four an entry, and all later numbers are as they were; with the same columns it
+   passes gz_check_query. Refused, all of `out` is as it was. Time in proportion to query_len. */
+gz_made_reply gz_reverse(const uint16_t *query, size_t query_len, uint16_t columns, uint16_t *out, size_t out_len);
 
 /* The index of the tree that a party sees, and the list of its tags. next_len is n or more, and tags_len three times the number of tags or
    more; 256 and 768 numbers have room for every tree's. Refusals 5 to 7, 30, 31, and 20 where either buffer is too short.

@@ -1,8 +1,8 @@
 /* Calls every function of include/geznauri.h as a C program does: with sound tables and, for each number of refusal, with a
    damaged one. Most tables are of the teaching warehouse, and their results are worked out by hand; quick pages are held against
-   pages besides. Tree tables are written with two numbers a node where every node is common, and lent to party 1; two firms over one
-   table come last. Buffers stand in memory that is filled with a pattern, and the whole of it is compared. Prints what differs; the
-   status is 1 if anything does. */
+   pages besides, and reversed queries against what is typed for them and against the queries. Tree tables are written with two numbers a
+   node where every node is common, and lent to party 1; two firms over one table, and reversed queries, come last. Buffers stand in memory
+   that is filled with a pattern, and the whole of it is compared. Prints what differs; the status is 1 if anything does. */
 #include "geznauri.h"
 #include <stdio.h>
 #include <string.h>
@@ -24,8 +24,8 @@ _Static_assert(offsetof(gz_index_reply, next) == 8 && offsetof(gz_index_reply, t
 _Static_assert(sizeof(gz_cursor) == 8 && offsetof(gz_cursor, begun) == 0 && offsetof(gz_cursor, last) == 2, "gz_cursor");
 _Static_assert(sizeof(gz_part) == 16 && offsetof(gz_part, start) == 0 && offsetof(gz_part, length) == 8, "gz_part");
 _Static_assert(sizeof(bool) == 1 && sizeof(size_t) == 8, "bool and size_t");
-#if GZ_VERSION_MAJOR != 6
-#error "this program is written to version 6.0 of the header"
+#if GZ_VERSION_MAJOR != 6 || GZ_VERSION_MINOR < 1
+#error "this program is written to version 6.1 of the header"
 #endif
 
 #define PATTERN 0xA5
@@ -148,10 +148,28 @@ static void trees(void)
     tree("parents before tags", NUMBERS(65535, 65535, 0, 2, 2, 3), 6, 2);
 }
 
+/* The reversed query that is due, where a call is accepted. */
+static void reversing(const char *what, const uint16_t *query, size_t query_len, uint16_t columns, size_t room, uint16_t number,
+                      uint16_t place, const uint16_t *table, size_t table_len)
+{
+    uint16_t memory[MARGIN + 300 + MARGIN], wanted[LENGTH(memory)];
+    memset(memory, PATTERN, sizeof memory);
+    memset(wanted, PATTERN, sizeof wanted);
+    if (table_len != 0)
+        memcpy(wanted + MARGIN, table, table_len * sizeof *table);
+    gz_made_reply r = gz_reverse(query, query_len, columns, room == 0 ? NULL : memory + MARGIN, room);
+    expect(r.number == number && r.place == place, "gz_reverse", what, "reply");
+    expect(r.count == table_len, "gz_reverse", what, "count");
+    expect(memcmp(memory, wanted, sizeof memory) == 0, "gz_reverse", what, "buffer");
+}
+
+/* What the check refuses is not reversed either, whatever the room. */
 static void query(const char *what, const uint16_t *table, size_t length, uint16_t columns, uint16_t number, uint16_t place)
 {
     gz_reply r = gz_check_query(table, length, columns);
     expect(r.number == number && r.place == place, "gz_check_query", what, "reply");
+    for (size_t room = 0; number != 0 && room <= 300; room += 100)
+        reversing(what, table, length, columns, room, number, place, NOTHING);
 }
 
 static void queries(void)
@@ -1642,10 +1660,11 @@ static void worked(void)
     refuses("(child::shelf)*", TEACHING, 256, 25, 8);
 }
 
+static const char *const axes[] = {"self", "child", "parent", "right", "left", "descendant", "ancestor", "following", "preceding",
+                                   "following-sibling", "preceding-sibling", "descendant-or-self", "ancestor-or-self"};
+
 static void paths(void)
 {
-    static const char *const axes[] = {"self", "child", "parent", "right", "left", "descendant", "ancestor", "following", "preceding",
-                                       "following-sibling", "preceding-sibling", "descendant-or-self", "ancestor-or-self"};
     for (uint16_t axis = 0; axis < LENGTH(axes); axis++) {
         char text[32];
         snprintf(text, sizeof text, "%s::*", axes[axis]);
@@ -2782,6 +2801,440 @@ static void isolation(void)
     expect(accepted_alike > 10000 && refused_alike > 10000, "isolation", "calls", "shares of accepted and refused ones");
 }
 
+/* Reversed queries. */
+
+static const uint16_t converse[] = {0, 2, 1, 4, 3, 6, 5, 8, 7, 10, 9, 12, 11};
+
+/* A query reversed into a buffer that has just the room, into one that has more, and not into those that have less. More variables than it
+   names make no difference. What is made passes the check. */
+static void reverses(const char *what, const uint16_t *table, size_t length, uint16_t columns, const uint16_t *back, size_t back_len)
+{
+    query(what, table, length, columns, 0, 0);
+    for (; columns <= 3; columns++) {
+        query(what, back, back_len, columns, 0, 0);
+        reversing(what, table, length, columns, back_len, 0, 0, back, back_len);
+        reversing(what, table, length, columns, back_len + 1, 0, 0, back, back_len);
+        reversing(what, table, length, columns, 300, 0, 0, back, back_len);
+        reversing(what, table, length, columns, back_len - 1, 20, 0, NOTHING);
+        reversing(what, table, length, columns, 0, 20, 0, NOTHING);
+    }
+}
+
+/* A step reversed: its three entries, from entry `at` on. */
+#define BACK(at, axis, tag) STEP(0, tag), STEP(axis, ANY_NODE), TWO(1, at, (at) + 1)
+
+/* Each kind of path, by hand. */
+static void reversed_paths(void)
+{
+    static const uint16_t tests[] = {0, 3, 65533, ANY_NODE, STAR};
+    for (uint16_t axis = 0; axis < LENGTH(axes); axis++)
+        for (size_t i = 0; i < LENGTH(tests); i++)
+            reverses(axes[axis], NUMBERS(STEP(axis, tests[i])), 0, NUMBERS(BACK(0, converse[axis], tests[i])));
+    for (uint16_t v = 0; v < 3; v++)
+        reverses("a variable", NUMBERS(ONE(6, v)), v + 1,
+                 NUMBERS(SELF, ONE(12, v), TWO(5, 0, 1), STEP(12, ANY_NODE), TWO(1, 2, 3), BELOW, TWO(1, 4, 5)));
+    reverses("child::2/right::3", NUMBERS(STEP(1, 2), STEP(3, 3), TWO(1, 0, 1)), 0, NUMBERS(BACK(0, 4, 3), BACK(3, 2, 2), TWO(1, 2, 5)));
+    for (uint16_t kind = 2; kind <= 4; kind++)
+        reverses("union, intersect, except", NUMBERS(STEP(1, 2), STEP(3, 3), TWO(kind, 0, 1)), 0,
+                 NUMBERS(BACK(0, 2, 2), BACK(3, 4, 3), TWO(kind, 2, 5)));
+    reverses("child::2[. is $1]", NUMBERS(STEP(1, 2), ONE(12, 1), TWO(5, 0, 1)), 2,
+             NUMBERS(SELF, ONE(12, 1), TWO(5, 0, 1), BACK(3, 2, 2), TWO(1, 2, 5)));
+    reverses("/child::2", NUMBERS(STEP(1, 2), ONE(7, 0)), 0,
+             NUMBERS(BACK(0, 2, 2), SELF, PARENT, ONE(8, 4), ONE(9, 5), TWO(5, 3, 6), TWO(1, 2, 7), BELOW, TWO(1, 8, 9)));
+    reverses("(child::2)*", NUMBERS(STEP(1, 2), ONE(13, 0)), 0, NUMBERS(BACK(0, 2, 2), ONE(13, 2)));
+    /* runs, leftwards and rightwards */
+    reverses("child::1/right::2/descendant::3", NUMBERS(STEP(1, 1), STEP(3, 2), TWO(1, 0, 1), STEP(5, 3), TWO(1, 2, 3)), 0,
+             NUMBERS(BACK(0, 6, 3), BACK(3, 4, 2), BACK(6, 2, 1), TWO(1, 5, 8), TWO(1, 2, 9)));
+    reverses("child::1/(right::2/descendant::3)", NUMBERS(STEP(1, 1), STEP(3, 2), STEP(5, 3), TWO(1, 1, 2), TWO(1, 0, 3)), 0,
+             NUMBERS(BACK(0, 6, 3), BACK(3, 4, 2), TWO(1, 2, 5), BACK(7, 2, 1), TWO(1, 6, 9)));
+    reverses("(/$0)* except ..[. is $0]", NUMBERS(ONE(6, 0), ONE(7, 0), ONE(13, 1), PARENT, ONE(12, 0), TWO(5, 3, 4), TWO(4, 2, 5)), 1,
+             NUMBERS(SELF, ONE(12, 0), TWO(5, 0, 1), STEP(12, ANY_NODE), TWO(1, 2, 3), BELOW, TWO(1, 4, 5), SELF, PARENT, ONE(8, 8),
+                     ONE(9, 9), TWO(5, 7, 10), TWO(1, 6, 11), BELOW, TWO(1, 12, 13), ONE(13, 14), SELF, ONE(12, 0), TWO(5, 16, 17),
+                     BACK(19, 1, ANY_NODE), TWO(1, 18, 21), TWO(4, 15, 22)));
+    reverses("child::3, reversed", NUMBERS(BACK(0, 2, 3)), 0, NUMBERS(BACK(0, 1, ANY_NODE), BACK(3, 0, 3), TWO(1, 2, 5)));
+    reverses("bays with pallets", SLICE(pallets), 2,
+             NUMBERS(SELF, ONE(12, 1), TWO(5, 0, 1), BACK(3, 2, 3), TWO(1, 2, 5), SELF, ONE(12, 0), TWO(5, 7, 8), BACK(10, 6, 2),
+                     TWO(1, 9, 12), TWO(1, 6, 13)));
+}
+
+/* Node expressions of each kind, and paths of each kind in them: they are copied. */
+static void copied_tests(void)
+{
+    reverses("some", NUMBERS(STEP(1, 2), STEP(1, 3), ONE(8, 1), TWO(5, 0, 2)), 0,
+             NUMBERS(SELF, STEP(1, 3), ONE(8, 1), TWO(5, 0, 2), BACK(4, 2, 2), TWO(1, 3, 6)));
+    reverses("some and not", SLICE(last_bay), 0,
+             NUMBERS(SELF, STEP(1, 3), ONE(8, 1), STEP(3, STAR), ONE(8, 3), ONE(9, 4), TWO(10, 2, 5), TWO(5, 0, 6), BACK(8, 2, 2),
+                     TWO(1, 7, 10)));
+    for (uint16_t kind = 10; kind <= 11; kind++)
+        reverses("and, or", NUMBERS(STEP(1, 2), ONE(12, 2), ONE(12, 0), TWO(kind, 1, 2), TWO(5, 0, 3)), 3,
+                 NUMBERS(SELF, ONE(12, 2), ONE(12, 0), TWO(kind, 1, 2), TWO(5, 0, 3), BACK(5, 2, 2), TWO(1, 4, 7)));
+    reverses("same", SLICE(under_same), 2,
+             NUMBERS(SELF, STEP(1, 3), ONE(6, 1), TWO(14, 1, 2), TWO(5, 0, 3), SELF, ONE(12, 0), TWO(5, 5, 6), BACK(8, 0, ANY_NODE),
+                     TWO(1, 7, 10), TWO(1, 4, 11)));
+    reverses("every kind of path in a test: following::1[.[((/child::2)* union $0 intersect .)/right::* except ..] same left::3]",
+             NUMBERS(STEP(7, 1), SELF, STEP(1, 2), ONE(7, 2), ONE(13, 3), ONE(6, 0), SELF, TWO(3, 5, 6), TWO(2, 4, 7), STEP(3, STAR),
+                     TWO(1, 8, 9), PARENT, TWO(4, 10, 11), ONE(8, 12), TWO(5, 1, 13), STEP(4, 3), TWO(14, 14, 15), TWO(5, 0, 16)), 1,
+             NUMBERS(SELF, SELF, STEP(1, 2), ONE(7, 2), ONE(13, 3), ONE(6, 0), SELF, TWO(3, 5, 6), TWO(2, 4, 7), STEP(3, STAR),
+                     TWO(1, 8, 9), PARENT, TWO(4, 10, 11), ONE(8, 12), TWO(5, 1, 13), STEP(4, 3), TWO(14, 14, 15), TWO(5, 0, 16),
+                     BACK(18, 8, 1), TWO(1, 17, 20)));
+    /* what is lent in another order is made in the order of typed queries all the same */
+    reverses("the right operand first", NUMBERS(STEP(3, 3), STEP(1, 2), TWO(1, 1, 0)), 0,
+             NUMBERS(BACK(0, 4, 3), BACK(3, 2, 2), TWO(1, 2, 5)));
+    reverses("operands between each other's",
+             NUMBERS(STEP(1, 1), STEP(3, 2), STEP(5, 3), STEP(7, 4), TWO(2, 2, 0), TWO(3, 1, 3), TWO(1, 5, 4)), 0,
+             NUMBERS(BACK(0, 6, 3), BACK(3, 2, 1), TWO(2, 2, 5), BACK(7, 4, 2), BACK(10, 8, 4), TWO(3, 9, 12), TWO(1, 6, 13)));
+    reverses("a test before its path, the right of it first",
+             NUMBERS(ONE(12, 1), STEP(1, 3), STEP(1, 2), ONE(8, 1), TWO(11, 3, 0), TWO(5, 2, 4)), 2,
+             NUMBERS(SELF, STEP(1, 3), ONE(8, 1), ONE(12, 1), TWO(11, 2, 3), TWO(5, 0, 4), BACK(6, 2, 2), TWO(1, 5, 8)));
+}
+
+/* As many entries as a query may have, and more: 16 steps composed make 63 and 17 make 67; a star, a filter, a leading slash and a variable
+   add their own. 26 is told before the room is looked at. */
+static void reversed_limits(void)
+{
+    uint16_t lent[256], back[256];
+    size_t entries = 0;
+    for (uint16_t k = 1; k <= 32; k++) {
+        memcpy(lent + 4 * entries++, (const uint16_t[]){STEP(1, k)}, 8);
+        if (k > 1) {
+            memcpy(lent + 4 * entries, (const uint16_t[]){TWO(1, (uint16_t)(entries - 2), (uint16_t)(entries - 1))}, 8);
+            entries++;
+        }
+        gz_made_reply r = gz_reverse(lent, 4 * entries, 0, back, 256);
+        bool due = k <= 16 ? r.number == 0 && r.count == 4 * (4u * k - 1) : r.number == 26 && r.count == 0;
+        expect(due, "gz_reverse", "composed steps", "reply");
+        for (size_t room = 0; k > 16 && room <= 300; room += 50)
+            reversing("too many composed steps", lent, 4 * entries, 0, room, 26, 0, NOTHING);
+    }
+    /* stars over a step: 61 make 64 entries, and 62 make 65 */
+    memcpy(lent, (const uint16_t[]){STEP(5, 2)}, 8);
+    memcpy(back, (const uint16_t[]){BACK(0, 6, 2)}, 24);
+    for (uint16_t e = 1; e < 64; e++)
+        memcpy(lent + 4 * e, (const uint16_t[]){ONE(13, e - 1)}, 8);
+    for (uint16_t e = 3; e < 64; e++)
+        memcpy(back + 4 * e, (const uint16_t[]){ONE(13, e - 1)}, 8);
+    reverses("61 stars", lent, 4 * 62, 0, SLICE(back));
+    reversing("62 stars", lent, 4 * 63, 0, 300, 26, 0, NOTHING);
+    reversing("63 stars", lent, 4 * 64, 0, 0, 26, 0, NOTHING);
+    /* child::2[not(.. not(. is $0) ..)]: the test and 6 more */
+    for (uint16_t e = 0; e < 64; e++)
+        memcpy(lent + 4 * e, (const uint16_t[]){e == 0 ? 12 : 9, e == 0 ? 0 : e - 1, 0, 0}, 8);
+    for (uint16_t test = 57; test <= 62; test++) {
+        memcpy(lent + 4 * test, (const uint16_t[]){STEP(1, 2), TWO(5, test, test - 1)}, 16);
+        memcpy(back, (const uint16_t[]){SELF, ONE(12, 0)}, 16);
+        for (uint16_t e = 2; e <= test; e++)
+            memcpy(back + 4 * e, (const uint16_t[]){ONE(9, e - 1)}, 8);
+        if (test <= 58) {
+            memcpy(back + 4 * (test + 1), (const uint16_t[]){TWO(5, 0, test), BACK(test + 2, 2, 2), TWO(1, test + 1, test + 4)}, 40);
+            reverses("nots", lent, 4 * (test + 2u), 1, back, 4 * (test + 6u));
+        } else {
+            reversing("too many nots", lent, 4 * (test + 2u), 1, 300, 26, 0, NOTHING);
+        }
+        memcpy(lent + 4 * test, (const uint16_t[]){ONE(9, test - 1), ONE(9, test)}, 16);
+    }
+    /* 'from the root' adds 8, and a variable makes 7 */
+    memcpy(lent, (const uint16_t[]){ONE(6, 0)}, 8);
+    for (uint16_t e = 1; e < 64; e++) {
+        memcpy(lent + 4 * e, (const uint16_t[]){ONE(7, e - 1)}, 8);
+        gz_made_reply r = gz_reverse(lent, 4 * (e + 1u), 1, back, 256);
+        bool due = e <= 7 ? r.number == 0 && r.count == 4 * (7 + 8u * e) : r.number == 26 && r.count == 0;
+        expect(due, "gz_reverse", "from the root", "reply");
+    }
+}
+
+/* What a path is typed as, and what its reverse is typed as, kind by kind; operands stand in brackets, which make no entry. 64 entries have
+   less than 5,000 bytes. */
+static char typing[8192];
+static size_t typing_len;
+
+static void type(const char *piece)
+{
+    memcpy(typing + typing_len, piece, strlen(piece));
+    typing_len += strlen(piece);
+}
+
+static void type_step(uint16_t axis, uint16_t tag)
+{
+    static const char *const tags[] = {"store", "hall", "bay", "pallet"};
+    type(axes[axis]), type("::"), type(tag == STAR ? "*" : tag == ANY_NODE ? "node()" : tags[tag]);
+}
+
+static void type_variable(uint16_t variable)
+{
+    static const char *const variables[] = {"$0", "$1", "$2"};
+    type(variables[variable]);
+}
+
+static void type_path(const uint16_t *query, uint16_t e);
+static void type_reverse(const uint16_t *query, uint16_t e);
+
+/* An operand in brackets, as it is or reversed. */
+static void type_operand(void (*typist)(const uint16_t *, uint16_t), const uint16_t *query, uint16_t e)
+{
+    type("("), typist(query, e), type(")");
+}
+
+static const char *const operators[] = {[1] = "/",      [2] = " union ", [3] = " intersect ", [4] = " except ",
+                                        [10] = " and ", [11] = " or ",   [14] = " same "};
+
+static void type_test(const uint16_t *query, uint16_t e)
+{
+    const uint16_t *f = query + 4 * e;
+    if (f[0] == 8)
+        type_operand(type_path, query, f[1]);
+    else if (f[0] == 9)
+        type("not"), type_operand(type_test, query, f[1]);
+    else if (f[0] == 12)
+        type(". is "), type_variable(f[1]);
+    else {
+        void (*typist)(const uint16_t *, uint16_t) = f[0] == 14 ? type_path : type_test;
+        type("("), type_operand(typist, query, f[1]), type(operators[f[0]]), type_operand(typist, query, f[2]), type(")");
+    }
+}
+
+static void type_path(const uint16_t *query, uint16_t e)
+{
+    const uint16_t *f = query + 4 * e;
+    if (f[0] == 0)
+        type_step(f[1], f[3]);
+    else if (f[0] == 6)
+        type_variable(f[1]);
+    else if (f[0] == 7)
+        type("/"), type_operand(type_path, query, f[1]);
+    else {
+        type_operand(type_path, query, f[1]);
+        if (f[0] == 5)
+            type("["), type_test(query, f[2]), type("]");
+        else if (f[0] == 13)
+            type("*");
+        else
+            type(operators[f[0]]), type_operand(type_path, query, f[2]);
+    }
+}
+
+static void type_reverse(const uint16_t *query, uint16_t e)
+{
+    const uint16_t *f = query + 4 * e;
+    uint16_t first = f[0] == 1 ? f[2] : f[1], second = f[0] == 1 ? f[1] : f[2];
+    if (f[0] == 0)
+        type_step(0, f[3]), type("/"), type_step(converse[f[1]], ANY_NODE);
+    else if (f[0] == 6)
+        type("self::node()[. is "), type_variable(f[1]), type("]/ancestor-or-self::node()/descendant-or-self::node()");
+    else if (f[0] == 5)
+        type("self::node()["), type_test(query, f[2]), type("]/"), type_operand(type_reverse, query, f[1]);
+    else {
+        type_operand(type_reverse, query, first);
+        if (f[0] == 7)
+            type("/self::node()[not(parent::node())]/descendant-or-self::node()");
+        else if (f[0] == 13)
+            type("*");
+        else
+            type(operators[f[0]]), type_operand(type_reverse, query, second);
+    }
+}
+
+/* What is typed, read into a table of 256 numbers. */
+static gz_read_reply read_typed(void (*typist)(const uint16_t *, uint16_t), const uint16_t *query, size_t entries, uint16_t *table)
+{
+    typing_len = 0;
+    typist(query, (uint16_t)(entries - 1));
+    return gz_read((const uint8_t *)typing, typing_len, TABLE(house), TABLE(site), table, 256);
+}
+
+/* A random query. Which operand's entries stand first is drawn too. */
+static uint16_t random_query[4 * 256];
+static size_t random_entries;
+
+static uint16_t random_entry(uint16_t kind, uint16_t left, uint16_t right, uint16_t tag)
+{
+    memcpy(random_query + 4 * random_entries, (const uint16_t[]){kind, left, right, tag}, 8);
+    return (uint16_t)random_entries++;
+}
+
+static uint16_t random_test(size_t depth);
+static uint16_t random_path(size_t depth);
+
+static uint16_t random_binary(uint16_t kind, size_t depth)
+{
+    uint16_t (*left)(size_t) = kind == 10 || kind == 11 ? random_test : random_path;
+    uint16_t (*right)(size_t) = kind == 5 ? random_test : left;
+    bool swap = draw(2);
+    uint16_t a = swap ? right(depth - 1) : left(depth - 1), b = swap ? left(depth - 1) : right(depth - 1);
+    return random_entry(kind, swap ? b : a, swap ? a : b, 0);
+}
+
+static uint16_t random_path(size_t depth)
+{
+    static const uint16_t kinds[] = {0, 0, 6, 1, 1, 2, 3, 4, 5, 5, 7, 13, 13}, tests[] = {0, 1, 2, 3, ANY_NODE, STAR};
+    uint16_t kind = kinds[draw(depth == 0 ? 3 : LENGTH(kinds))];
+    if (kind == 0)
+        return random_entry(0, draw(13), 0, tests[draw(LENGTH(tests))]);
+    if (kind == 6)
+        return random_entry(6, draw(3), 0, 0);
+    if (kind == 7 || kind == 13)
+        return random_entry(kind, random_path(depth - 1), 0, 0);
+    return random_binary(kind, depth);
+}
+
+static uint16_t random_test(size_t depth)
+{
+    static const uint16_t kinds[] = {12, 8, 8, 9, 10, 11, 14};
+    uint16_t kind = kinds[draw(depth == 0 ? 1 : LENGTH(kinds))];
+    if (kind == 12)
+        return random_entry(12, draw(3), 0, 0);
+    if (kind == 8 || kind == 9)
+        return random_entry(kind, kind == 8 ? random_path(depth - 1) : random_test(depth - 1), 0, 0);
+    return random_binary(kind, depth);
+}
+
+/* The pairs of a query, swapped or not. */
+static void pairs_of(struct lent l, const uint16_t *query, size_t query_len, bool swap, uint8_t *cells)
+{
+    static uint8_t found[65536];
+    size_t n = l.n;
+    gz_reply r = gz_pairs(SHARED(l.tree), query, query_len, l.columns, l.nodes, l.nodes_len, found, sizeof found);
+    expect(r.number == 0, "gz_pairs", "a reversed query", "reply");
+    for (size_t x = 0; x < n; x++)
+        for (size_t y = 0; y < n; y++)
+            cells[x * n + y] = swap ? found[y * n + x] : found[x * n + y];
+}
+
+/* Over one tree and under one assignment: the reversed query's pairs are the query's, swapped; what either reaches forwards the other
+   reaches backwards, from each node, of a large tree every 51st, from all and from every third; and where it can be reversed again, that
+   has the query's pairs. */
+static void swapped(struct lent l, const uint16_t *back, size_t back_len)
+{
+    static uint8_t here[65536], there[65536];
+    static const struct direction *const directions[] = {&forwards, &backwards};
+    uint16_t twice[256];
+    size_t n = l.n;
+    pairs_of(l, l.query, l.query_len, false, here);
+    pairs_of(l, back, back_len, true, there);
+    expect(memcmp(here, there, n * n) == 0, "gz_reverse", "a random query", "pairs");
+    for (size_t set = 0; set < n + 2; set += n < 100 || set >= n - 1 ? 1 : 51)
+        for (int i = 0; i < 2; i++) {
+            uint8_t from[256], to[2][256] = {{0}};
+            for (size_t x = 0; x < n; x++)
+                from[x] = set < n ? x == set : set == n || x % 3 == 1;
+            const struct direction *d = directions[i], *b = directions[!i];
+            gz_image_reply r = d->function(SHARED(l.tree), l.query, l.query_len, l.columns, l.nodes, l.nodes_len, from, n, to[0], n);
+            gz_image_reply s = b->function(SHARED(l.tree), back, back_len, l.columns, l.nodes, l.nodes_len, from, n, to[1], n);
+            expect(r.number == 0 && s.number == 0 && r.count == s.count, b->name, "a reversed query", "reply");
+            expect(memcmp(to[0], to[1], n) == 0, b->name, "a reversed query", "image");
+        }
+    gz_made_reply again = gz_reverse(back, back_len, l.columns, twice, 256);
+    if (again.number == 0) {
+        pairs_of(l, twice, again.count, false, there);
+        expect(memcmp(here, there, n * n) == 0, "gz_reverse", "a random query, twice", "pairs");
+    }
+    expect(again.number == 0 ? again.count > back_len : again.number == 26, "gz_reverse", "a random query, twice", "reply");
+}
+
+/* Over trees of both parties, with and without hidden nodes: images and pairs, and the answers, which are the same; quick pages take both
+   queries or neither. */
+static void reversed_over_trees(const uint16_t *back, size_t back_len)
+{
+    uint16_t tree[512];
+    size_t n = 1 + draw(6);
+    random_tree(tree, n);
+    for (uint16_t party = 1; party <= 2; party++) {
+        const uint16_t nodes[] = {draw(n), draw(n), draw(n)};
+        struct lent l = {hiding(tree, n, party, draw(3)), n, random_query, 4 * random_entries, 3, nodes, 3};
+        swapped(l, back, back_len);
+        uint16_t rows[LENGTH(every_row)], row[3];
+        size_t answers = every_answer(l);
+        memcpy(rows, every_row, sizeof rows);
+        gz_cursor cursor = {0}, fresh = {0};
+        gz_quick_reply q = paged(true, l, &cursor, row, 3);
+        l.query = back, l.query_len = back_len;
+        expect(every_answer(l) == answers && memcmp(rows, every_row, 6 * answers) == 0, "gz_reverse", "a random query", "answers");
+        gz_quick_reply r = paged(true, l, &fresh, row, 3);
+        expect((q.number == 0 || q.number == 29) && q.number == r.number, "gz_quick_page", "a reversed query", "reply");
+    }
+}
+
+/* Random queries: the table that is made is the one that is read from what is typed, and so is that of the query in the order of typed
+   queries; one that has too many entries is refused by both. */
+static void random_reversals(void)
+{
+    size_t made = 0, refused = 0, unread_texts = 0;
+    for (size_t i = 0; i < 3000; i++) {
+        uint16_t table[256], due[256], back[256];
+        random_entries = 0;
+        random_path(draw(8));
+        if (random_entries > 64)
+            continue;
+        gz_read_reply r = read_typed(type_path, random_query, random_entries, table), s = {0};
+        expect(r.number == 23 || (r.number == 0 && r.count == 4 * random_entries), "gz_read", "a random query", "reply");
+        s = read_typed(type_reverse, random_query, random_entries, due);
+        expect(s.number == 23 || s.number == 26 || s.number == 0, "gz_read", "a random query, reversed", "reply");
+        if (r.number == 23 || s.number == 23) {
+            unread_texts++;
+            continue;
+        }
+        reversing("a random query", random_query, 4 * random_entries, 3, 256, s.number, 0, due, s.count);
+        reversing("a random query, typed", table, r.count, 3, 300, s.number, 0, due, s.count);
+        if (s.number == 26) {
+            refused++;
+            continue;
+        }
+        made++;
+        gz_reverse(random_query, 4 * random_entries, 3, back, 256);
+        query("a random query, reversed", back, s.count, 3, 0, 0);
+        reversed_over_trees(back, s.count);
+    }
+    expect(made > 1000 && refused > 100 && unread_texts < 500, "gz_reverse", "random queries", "shares of made and refused ones");
+}
+
+/* Typed queries, and what the reversed ones are typed as; and over the largest trees. */
+static void typed_reversals(void)
+{
+    static const char *const texts[][2] = {
+        {"child::pallet", "self::pallet/parent::node()"},
+        {".", "./."},
+        {"$1", ".[. is $1]/ancestor-or-self::node()/descendant-or-self::node()"},
+        {"child::bay/child::pallet", "self::pallet/../(self::bay/..)"},
+        {"child::bay union right::*", "self::bay/.. union self::*/left::node()"},
+        {"child::bay intersect right::*", "self::bay/.. intersect self::*/left::node()"},
+        {"child::bay except right::*", "self::bay/.. except self::*/left::node()"},
+        {"child::bay[child::pallet]", ".[child::pallet]/(self::bay/..)"},
+        {"/child::bay", "self::bay/../.[not(..)]/descendant-or-self::node()"},
+        {"(child::pallet)*", "(self::pallet/..)*"},
+        {"//child::pallet[not(right::*)]",
+         ".[not(right::*)]/(self::pallet/..)/(./ancestor-or-self::node())/.[not(..)]/descendant-or-self::node()"},
+        {"descendant::bay[. is $0]/child::pallet[. is $1]", ".[. is $1]/(self::pallet/..)/(.[. is $0]/(self::bay/ancestor::node()))"},
+        {"child::bay[child::pallet same (child::*)*/$0][..]/(right::* union left::*)*",
+         "(self::*/left::node() union self::*/right::node())*/(.[..]/(.[child::pallet same (child::*)*/$0]/(self::bay/..)))"}};
+    fill_hall();
+    fill_chain();
+    for (size_t i = 0; i < LENGTH(texts); i++) {
+        uint16_t table[256], back[256];
+        const uint8_t *text = (const uint8_t *)texts[i][0], *turned = (const uint8_t *)texts[i][1];
+        gz_read_reply r = gz_read(text, strlen(texts[i][0]), TABLE(house), TABLE(site), table, 256);
+        gz_read_reply s = gz_read(turned, strlen(texts[i][1]), TABLE(house), TABLE(site), back, 256);
+        expect(r.number == 0 && s.number == 0 && r.columns == s.columns, "gz_read", texts[i][0], "reply");
+        reverses(texts[i][0], table, r.count, r.columns, back, s.count);
+        for (uint16_t node = 0; node < 6; node++) {
+            const uint16_t nodes[] = {node, (node * 5 + 2) % 6, 40 * node, 255 - 40 * node};
+            swapped(LENT(table, r.count, r.columns, nodes, r.columns), back, s.count);
+            swapped(ON(SLICE(document), table, r.count, r.columns, nodes, r.columns), back, s.count);
+            if (node % 3 == 1) {
+                swapped(ON(hall, 512, table, r.count, r.columns, nodes + 2, r.columns), back, s.count);
+                swapped(ON(chain, 512, table, r.count, r.columns, nodes + 2, r.columns), back, s.count);
+            }
+        }
+    }
+}
+
+static void reversals(void)
+{
+    reversed_paths();
+    copied_tests();
+    reversed_limits();
+    typed_reversals();
+    random_reversals();
+}
+
 int main(void)
 {
     trees();
@@ -2818,6 +3271,7 @@ int main(void)
     two_firms();
     refused_tables();
     isolation();
+    reversals();
     printf("%d compared, %d wrong\n", tried, failed);
     return failed != 0;
 }

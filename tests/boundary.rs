@@ -129,6 +129,7 @@ extern "C" {
         text: *const u8, text_len: usize, house: *const u8, house_len: usize, site: *const u8, site_len: usize,
         query: *mut u16, query_len: usize,
     ) -> ReadReply;
+    fn gz_reverse(query: *const u16, query_len: usize, columns: u16, out: *mut u16, out_len: usize) -> MadeReply;
     fn gz_index(
         tree: *const u16, tree_len: usize, party: u16, next: *mut u16, next_len: usize, tags: *mut u16, tags_len: usize,
     ) -> IndexReply;
@@ -243,6 +244,10 @@ fn name<'a>(house: &'a [u8], site: &'a [u8], tag: u16) -> (Reply, &'a [u8]) {
 fn read(text: &[u8], house: &[u8], site: &[u8], query: &mut [u16]) -> ReadReply {
     let (t, h, s) = (text, house, site);
     unsafe { gz_read(t.as_ptr(), t.len(), h.as_ptr(), h.len(), s.as_ptr(), s.len(), query.as_mut_ptr(), query.len()) }
+}
+
+fn reverse(query: &[u16], columns: u16, out: &mut [u16]) -> MadeReply {
+    unsafe { gz_reverse(query.as_ptr(), query.len(), columns, out.as_mut_ptr(), out.len()) }
 }
 
 fn index(tree: &[u16], next: &mut [u16], tags: &mut [u16]) -> IndexReply {
@@ -566,6 +571,7 @@ fn main() {
     assert_eq!(set, [7; 8]);
 
     nested();
+    reversed();
     two_firms();
 }
 
@@ -593,6 +599,105 @@ fn nested() {
     let bays = [0, 5, 0, 2, 12, 0, 0, 0, 5, 0, 1, 0, 0, 1, 0, 3, 1, 2, 3, 0, 6, 1, 0, 0, 3, 4, 5, 0];
     assert_eq!(page(&bays, 2, &mut cursor, &mut rows), PageReply { number: 0, place: 0, count: 3, more: false });
     assert_eq!((cursor, rows), (Cursor { begun: 1, last: [4, 5, 9] }, [1, 2, 1, 3, 4, 5, 7, 7]));
+}
+
+// Reversed queries: a table of each kind, refusals, and that forwards over one is backwards over the other, for both parties.
+fn reversed() {
+    let made = |count| MadeReply { number: 0, place: 0, count };
+    let unmade = |number, place| MadeReply { number, place, count: 0 };
+    // each with its number of variables, and what it is reversed
+    let queries: [(&[u16], u16, &[u16]); 8] = [
+        // child::3, $1, child::2/right::3, (child::2 union right::3) intersect descendant::3 except following::1, (child::2)*
+        (&[0, 1, 0, 3], 0, &[0, 0, 0, 3, 0, 2, 0, 65534, 1, 0, 1, 0]),
+        (&[6, 1, 0, 0], 2, &[0, 0, 0, 65534, 12, 1, 0, 0, 5, 0, 1, 0, 0, 12, 0, 65534, 1, 2, 3, 0, 0, 11, 0, 65534, 1, 4, 5, 0]),
+        (
+            &[0, 1, 0, 2, 0, 3, 0, 3, 1, 0, 1, 0],
+            0,
+            &[0, 0, 0, 3, 0, 4, 0, 65534, 1, 0, 1, 0, 0, 0, 0, 2, 0, 2, 0, 65534, 1, 3, 4, 0, 1, 2, 5, 0],
+        ),
+        (
+            &[0, 1, 0, 2, 0, 3, 0, 3, 2, 0, 1, 0, 0, 5, 0, 3, 3, 2, 3, 0, 0, 7, 0, 1, 4, 4, 5, 0],
+            0,
+            &[
+                0, 0, 0, 2, 0, 2, 0, 65534, 1, 0, 1, 0, 0, 0, 0, 3, 0, 4, 0, 65534, 1, 3, 4, 0, 2, 2, 5, 0, 0, 0, 0, 3, 0, 6, 0, 65534,
+                1, 7, 8, 0, 3, 6, 9, 0, 0, 0, 0, 1, 0, 8, 0, 65534, 1, 11, 12, 0, 4, 10, 13, 0,
+            ],
+        ),
+        (&[0, 1, 0, 2, 13, 0, 0, 0], 0, &[0, 0, 0, 2, 0, 2, 0, 65534, 1, 0, 1, 0, 13, 2, 0, 0]),
+        // /child::2, and child::*[child::* same descendant::3], whose test is copied, lent in another order of entries
+        (
+            &[0, 1, 0, 2, 7, 0, 0, 0],
+            0,
+            &[
+                0, 0, 0, 2, 0, 2, 0, 65534, 1, 0, 1, 0, 0, 0, 0, 65534, 0, 2, 0, 65534, 8, 4, 0, 0, 9, 5, 0, 0, 5, 3, 6, 0, 1, 2, 7, 0,
+                0, 11, 0, 65534, 1, 8, 9, 0,
+            ],
+        ),
+        (
+            &[0, 5, 0, 3, 0, 1, 0, 65535, 14, 1, 0, 0, 0, 1, 0, 65535, 5, 3, 2, 0],
+            0,
+            &[
+                0, 0, 0, 65534, 0, 1, 0, 65535, 0, 5, 0, 3, 14, 1, 2, 0, 5, 0, 3, 0, 0, 0, 0, 65535, 0, 2, 0, 65534, 1, 5, 6, 0, 1, 4,
+                7, 0,
+            ],
+        ),
+        // the bays with their pallets
+        (
+            &PALLETS,
+            2,
+            &[
+                0, 0, 0, 65534, 12, 1, 0, 0, 5, 0, 1, 0, 0, 0, 0, 3, 0, 2, 0, 65534, 1, 3, 4, 0, 1, 2, 5, 0, 0, 0, 0, 65534, 12, 0, 0, 0,
+                5, 7, 8, 0, 0, 0, 0, 2, 0, 6, 0, 65534, 1, 10, 11, 0, 1, 9, 12, 0, 1, 6, 13, 0,
+            ],
+        ),
+    ];
+    for (query, columns, due) in queries {
+        let mut out = [7; 66];
+        assert_eq!(reverse(query, columns, &mut out[..due.len() - 1]), unmade(20, 0));
+        assert_eq!(out, [7; 66]);
+        assert_eq!(reverse(query, columns, &mut out), made(due.len()));
+        assert_eq!((&out[..due.len()], &out[due.len()..]), (due, &[7; 66][due.len()..]));
+        assert_eq!(reverse(query, 3, &mut out[..due.len()]), made(due.len()));
+        assert_eq!(check_query(due, columns), ACCEPTED);
+        for t in [common(&WAREHOUSE), Shared { numbers: FIRMS.to_vec(), party: 1 }, Shared { numbers: FIRMS.to_vec(), party: 2 }] {
+            let n = [6, 5, 4][if t.numbers.len() == 18 { 0 } else { t.party as usize }];
+            let nodes = &[3, 2][..columns as usize];
+            for set in 0..1 << n {
+                let from: Vec<u8> = (0..n).map(|x| (set >> x & 1) as u8).collect();
+                let (mut to, mut back) = ([7; 6], [7; 6]);
+                let reply = image_for(gz_forwards, &t, due, nodes, &from, &mut to);
+                assert_eq!((reply.number, reply), (0, image_for(gz_backwards, &t, query, nodes, &from, &mut back)));
+                assert_eq!(to, back);
+                let reply = image_for(gz_backwards, &t, due, nodes, &from, &mut to);
+                assert_eq!((reply.number, reply), (0, image_for(gz_forwards, &t, query, nodes, &from, &mut back)));
+                assert_eq!(to, back);
+            }
+        }
+    }
+
+    // as many steps composed as can be reversed, and one more; a star over them, and two
+    let mut run = vec![0, 1, 0, 2];
+    for k in 1..16 {
+        run.extend([0, 1, 0, 2, 1, 2 * k - 2, 2 * k - 1, 0]);
+    }
+    let mut out = [7; 256];
+    assert_eq!(reverse(&run, 0, &mut out[..252]), made(252));
+    run.extend([13, 30, 0, 0]);
+    assert_eq!(reverse(&run, 0, &mut out), made(256));
+    assert_eq!((&out[..4], &out[252..]), (&[0, 0, 0, 2][..], &[13, 62, 0, 0][..]));
+    out = [7; 256];
+    assert_eq!(reverse(&run, 0, &mut out[..255]), unmade(20, 0));
+    run.extend([13, 31, 0, 0]);
+    assert_eq!(reverse(&run, 0, &mut out[..0]), unmade(26, 0));
+    assert_eq!(reverse(&[], 0, &mut out), unmade(8, 0));
+    assert_eq!(reverse(&CHILD, 4, &mut out), unmade(9, 0));
+    assert_eq!(reverse(&[15, 0, 0, 0], 0, &mut out), unmade(10, 0));
+    assert_eq!(reverse(&PALLETS, 1, &mut out), unmade(11, 4));
+    assert_eq!(reverse(&[7, 0, 0, 0], 0, &mut out), unmade(12, 0));
+    assert_eq!(reverse(&[0, 1, 0, 2, 9, 0, 0, 0], 0, &mut out), unmade(13, 1));
+    assert_eq!(reverse(&[0, 1, 0, 2, 0, 1, 0, 3], 0, &mut out), unmade(14, 0));
+    assert_eq!(reverse(&[12, 0, 0, 0], 1, &mut out[..0]), unmade(15, 0));
+    assert_eq!(out, [7; 256]);
 }
 
 // Each party over one table, the other's nodes hidden, and what is refused of table and party before all else.

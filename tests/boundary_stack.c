@@ -1,12 +1,12 @@
 /* The stack that a call takes is as include/geznauri.h has it: less than 1 KiB for a check and a name, less than 4 KiB where a seen tree
-   is made, a typed query is read, an index is made or followed, or a relation turned from bytes to bits or back, less than 9 KiB for a
-   query of one level, and less than 4 KiB for each further level of nesting; a page takes less than 14 KiB for one level, a quick one less
-   than 13, and 4 KiB for each further one. Pairs in bits take so little for every query that stack and table together are smaller than a
-   table of bytes; pairs in bytes take less than 64 KiB for every query, and all else that is asked of a query that nests less than 70, but
-   a page may take what its levels allow: what its variables decide need not nest.
+   is made, a typed query is read, an index is made or followed, or a relation turned from bytes to bits or back, less than 32 KiB where a
+   query is reversed, less than 9 KiB for a query of one level, and less than 4 KiB for each further level of nesting; a page takes less
+   than 14 KiB for one level, a quick one less than 13, and 4 KiB for each further one. Pairs in bits take so little for every query that
+   stack and table together are smaller than a table of bytes; pairs in bytes take less than 64 KiB for every query, and all else that is
+   asked of a query that nests less than 70, but a page may take what its levels allow: what its variables decide need not nest.
    Calls run on a stack that was filled with a pattern; how much of the pattern is gone, less what a thread takes that calls nothing, is
-   what the call took. The tree of queries has one node, and of quick pages two: frames are of one size for all trees; for pairs in bits it has
-   256, as has what is turned. */
+   what the call took. The tree of queries has one node, and of quick pages two: frames are of one size for all trees; for pairs in bits it
+   has 256, as has what is turned. */
 #define _GNU_SOURCE
 #include "geznauri.h"
 #include <pthread.h>
@@ -17,6 +17,7 @@
 #define PATTERN 0xA5
 #define NESTING (70 * 1024) /* for a query that nests */
 #define WRITTEN (64 * 1024) /* for pairs in bytes of every query */
+#define TURNED (32 * 1024) /* for the reversing of every query */
 #define SIZE ((size_t)1 << 20)
 
 static const uint16_t tree[] = {65535, 1, 0};
@@ -78,6 +79,16 @@ static void *quick(void *unused)
     static uint16_t rows[24];
     gz_cursor cursor = {0};
     accepted(gz_quick_page(two, 6, 1, query, 4 * entries, 3, &cursor, rows, 24).number);
+    return unused;
+}
+
+/* A query reversed. That it has too many entries is told when it is made. */
+static void *reversing(void *unused)
+{
+    static uint16_t table[256];
+    uint16_t number = gz_reverse(query, 4 * entries, 3, table, 256).number;
+    if (number != 26)
+        accepted(number);
     return unused;
 }
 
@@ -203,13 +214,25 @@ static size_t page_limit(size_t levels)
     return limit(levels, 14) < by_levels ? by_levels : limit(levels, 14);
 }
 
+/* The most that the reversing of a query took, of any shape. */
+static size_t most_reversed;
+
+static size_t reversed(void)
+{
+    size_t took = taken(reversing) - taken(nothing);
+    most(&most_reversed, took);
+    if (took >= TURNED)
+        wrong = 1;
+    return took;
+}
+
 /* A quick page makes a table in which a variable that stands for any node has one level more. */
 static size_t most_quick, most_page, most_one_page, most_nesting;
 
 static void quick_at_most(const char *what, size_t expected)
 {
     size_t took = taken(quick) - taken(nothing), paged = taken(pages) - taken(nothing);
-    printf("%s, %zu levels: %zu bytes for a quick page, %zu for a page\n", what, expected, took, paged);
+    printf("%s, %zu levels: %zu bytes for a quick page, %zu for a page, %zu reversed\n", what, expected, took, paged, reversed());
     most(depth(entries - 1) >= 2 ? &most_nesting : &most_quick, took);
     most(&most_page, paged);
     if (expected == 1)
@@ -246,7 +269,8 @@ static size_t in_bits(const char *what)
 {
     size_t took = taken(bits) - taken(nothing), written = taken(in_bytes) - taken(nothing);
     size_t nesting = depth(entries - 1) >= 2 ? taken(images) - taken(nothing) : 0, paged = nesting ? taken(pages) - taken(nothing) : 0;
-    printf("%s, %zu entries, in bits: %zu bytes, %zu in bytes; nesting: %zu and %zu for a page\n", what, entries, took, written, nesting, paged);
+    printf("%s, %zu entries, in bits: %zu bytes, %zu in bytes; nesting: %zu and %zu for a page; %zu reversed\n", what, entries, took,
+           written, nesting, paged, reversed());
     most(&most_bits, took);
     most(&most_bytes, written);
     most(&most_nesting, nesting);
@@ -592,6 +616,30 @@ static void shapes_with_variables(void)
     printf("quick pages at most %zu bytes, pages %zu, and %zu for one level\n", most_quick, most_page, most_one_page);
 }
 
+/* What is reversed at the bottom of as many stars as there is room for: a step, a variable, and a filter; and a filter that is copied
+   with as many nots as there is room for. */
+static void shapes_reversed(void)
+{
+    static const uint16_t bottoms[][3][3] = {{{0}}, {{6, 2}}, {{0}, {12, 2}, {5, 0, 1}}};
+    static const size_t lengths[] = {1, 1, 3};
+    for (size_t i = 0; i < sizeof lengths / sizeof *lengths; i++) {
+        entries = 0;
+        for (size_t e = 0; e < lengths[i]; e++)
+            entry(bottoms[i][e][0], bottoms[i][e][1], bottoms[i][e][2], 0);
+        while (entries < 64)
+            entry(13, (uint16_t)(entries - 1), 0, 0);
+        printf("stars, %zu levels: %zu bytes reversed\n", levels(63), reversed());
+    }
+    entries = 0;
+    entry(0, 5, 0, 65535);
+    entry(12, 0, 0, 0);
+    while (entries < 63)
+        entry(9, (uint16_t)(entries - 1), 0, 0);
+    entry(5, 0, 62, 0);
+    printf("not, %zu levels: %zu bytes reversed\n", levels(63), reversed());
+    printf("reversed at most %zu bytes\n", most_reversed);
+}
+
 int main(void)
 {
     nested("", 0, ".", "", 0);
@@ -649,6 +697,7 @@ int main(void)
         at_most(pieces[i].name, 1 + deepen(&pieces[i], 64));
     }
     shapes_with_variables();
+    shapes_reversed();
     printf("at most %zu bytes, %zu for one level and %zu for each beyond it; %zu for queries that nest\n", most_taken, most_one, most_level,
            most_nesting);
     return wrong;

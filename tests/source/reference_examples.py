@@ -1,8 +1,8 @@
 #!/usr/bin/env python3
 """The examples of docs/REFERENCE.md are right by tests/support/reference.py: what stands on each axis, a relation as bytes and as
-bits, the calls of a quick page, the index, the job file byte for byte, and what the program prints for it. The worked readings and
-refusals of typed queries, and the queries that keep or break the rule of quick pages, are lines of tests/boundary.c, which holds the
-library to them."""
+bits, the calls of a quick page, the index, the tables of reversed queries by their pairs, the job file byte for byte, and what the
+program prints for it. The worked readings and refusals of typed queries, and the queries that keep or break the rule of quick pages,
+are lines of tests/boundary.c, which holds the library to them."""
 import itertools, os, re, struct, sys
 sys.dont_write_bytecode = True
 sys.path.insert(0, os.path.join(os.path.dirname(__file__), "..", "support"))
@@ -75,6 +75,18 @@ for queries, told in re.findall(r"^\| ((?:`[^`]+`(?:; )?)+) \| (kept.*|29 at .*)
     queries, places = re.findall("`([^`]+)`", queries), re.findall(r"29 at (\d+)", told)
     replies = ["29, %s" % place for place in places] or ["0, 0"]
     rules += zip(queries, replies if len(replies) > 1 else replies * len(queries))
+
+# `query` | `reversed query` | entries: the pairs are swapped, whatever node the variable has
+REVERSED = {"child::3": "0 1 0 3", "child::2/child::3": "0 1 0 2 0 1 0 3 1 0 1 0", "child::2[child::3]": "0 1 0 2 0 1 0 3 8 1 0 0 5 0 2 0",
+            "$0": "6 0 0 0", "/child::2": "0 1 0 2 7 0 0 0", "(child::3)*": "0 1 0 3 13 0 0 0"}
+reversals = re.findall(r"^\| `([^`]+)` \| `[^`]+` \| ((?:`[\d ]+`(?:, )?)+) \|$", section("Reversed queries"), re.M)
+if [written for written, _ in reversals] != list(REVERSED):
+    problems.append("the worked tables of reversed queries are not those of %s" % ", ".join(REVERSED))
+for written, entries in reversals:
+    for node in range(tree.n):
+        there, back = [relation(tree, list(map(int, re.findall(r"\d+", e))), [node]) for e in (REVERSED[written], entries)]
+        if any(there[x] >> y & 1 != back[y] >> x & 1 for x in range(tree.n) for y in range(tree.n)):
+            problems.append("the table of %s reversed does not have its pairs, swapped" % written)
 
 # `text` | entries | variables, and `text` | number at place
 readings = re.findall(r"^\| `([^`]+)` \| ((?:`[\d ]+`(?:, )?)+) \| (\d) \|$", text, re.M)

@@ -6,6 +6,7 @@ use lib.ListN.{length, drop}
 use lib.Dec.{eqb}
 use Rattle.model.specs.declared.Reply.{Reply}
 use Rattle.model.specs.declared.ImageReply.{ImageReply}
+use Rattle.model.specs.declared.MadeReply.{MadeReply}
 use Rattle.model.specs.Sets.{any}
 
 -- the least number below n that passes f, or n
@@ -38,6 +39,10 @@ reply k p = record { number = k; place = p }
 -- the reply of a verdict and a count
 abbrev pub counting : Reply → ℕ → ImageReply
 counting v count = record { number = v .number; place = v .place; count = count }
+
+-- the reply of a verdict, and of how many numbers were made
+abbrev pub making : Reply → ℕ → MadeReply
+making v count = record { number = v .number; place = v .place; count = count }
 
 -- the first check that fails; 0 and 0 if none does
 unfoldable pub verdict : List Check → Reply

@@ -3,7 +3,7 @@ ghost use mathlib.Core.Path.{_≡_};
 ghost use mathlib.Core.List.{_++_};
 ghost use Prim.Native.Nat.{_≤_, _<_};
 ghost use lib.ListN.{length, take, drop};
-ghost use Rattle.model.specs.Refusals.{reply, counting};
+ghost use Rattle.model.specs.Refusals.{reply, counting, making};
 
 // The reply to a call: 0 and 0, or the number and the place of a refusal.
 #[repr(C)]
@@ -101,6 +101,17 @@ pub fn image_reply(v: Reply, count: usize) -> ImageReply
     ensures { λ r. ⌜ r ≡ counting v count ⌝ }
 {
     ImageReply {
+        number: v.number,
+        place: v.place,
+        count: count,
+    }
+}
+
+// A verdict as a reply with a number of numbers.
+pub fn made_reply(v: Reply, count: usize) -> MadeReply
+    ensures { λ r. ⌜ r ≡ making v count ⌝ }
+{
+    MadeReply {
         number: v.number,
         place: v.place,
         count: count,

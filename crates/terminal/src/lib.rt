@@ -11,6 +11,7 @@ ghost use Rattle.parties.specs.Services.{seenBits, SeenQuickLeaves, seenIndex, 
 ghost use Rattle.packing.specs.Services.{PackLeaves, UnpackLeaves};
 ghost use Rattle.names.specs.Names.{nameChecks, partFor, IsPart};
 ghost use Rattle.reader.specs.Read.{ReadLeaves};
+ghost use Rattle.reversal.specs.Service.{reversal};
 
 // The check of a shared tree table.
 #[no_mangle]
@@ -246,4 +247,12 @@ pub extern "C" fn gz_read(
         ⌝ }
 {
     reader::read(text, house, site, query)
+}
+
+// The query turned round, as a query table at the front of the buffer.
+#[no_mangle]
+pub extern "C" fn gz_reverse(query: &[u16], columns: u16, out: &mut [u16]) -> model::MadeReply
+    ensures { λ r. ⌜ Leaves (reversal (now (query .entry)) columns (now (out .entry))) r (now (out .exit)) ⌝ }
+{
+    reversal::reverse(query, model::wide(columns), out)
 }

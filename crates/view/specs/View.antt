@@ -7,7 +7,7 @@ use lib.Dec.{eqb}
 use lib.ListN.{length, take}
 use Rattle.model.specs.declared.Reply.{Reply}
 use Rattle.model.specs.declared.MadeReply.{MadeReply}
-use Rattle.model.specs.Refusals.{verdict, written}
+use Rattle.model.specs.Refusals.{making, verdict, written}
 use Rattle.model.specs.Checks.{roomChecks}
 use Rattle.model.specs.Parties.{sharedChecks, sharedVerdict, seenTable, overSeen}
 use Rattle.model.specs.Accepted.{AcceptedTree}
@@ -33,10 +33,6 @@ pub record Looked (t : List ℕ) (party : ℕ) (r : Sight) (table : List ℕ) : 
   pub long : r .reply .number ≡ 0 → r .count ≡ length (seenTable t party)
   pub accepted : r .reply .number ≡ 0 → AcceptedTree (take (r .count) table)
 
--- the reply of a verdict, and of how many numbers were written
-abbrev pub made : Reply → ℕ → MadeReply
-made v count = record { number = v .number; place = v .place; count = count }
-
 -- 20: the buffer has room for less than the tree
 abbrev pub roomFor : List ℕ → List ℕ → Reply
 roomFor u table = verdict (roomChecks (length table) (length u))
@@ -45,5 +41,5 @@ roomFor u table = verdict (roomChecks (length table) (length u))
 -- front of the buffer
 unfoldable pub seenTree : List ℕ → ℕ → List ℕ → MadeReply × List ℕ
 seenTree t party table =
-    overSeen t party (λ v. (made v 0, table))
-    (λ u. (made (roomFor u table) (cond (eqb (roomFor u table .number) 0) (length u) 0), written (roomFor u table) u table))
+    overSeen t party (λ v. (making v 0, table))
+    (λ u. (making (roomFor u table) (cond (eqb (roomFor u table .number) 0) (length u) 0), written (roomFor u table) u table))

@@ -7,7 +7,7 @@ ghost use lib.ListN.{length};
 ghost use lib.Dec.{eqb};
 ghost use Rattle.model.specs.Sets.{bit};
 ghost use Rattle.model.specs.Services.{Leaves};
-ghost use Rattle.view.specs.View.{AcceptedTable, Filled, Looked, made, seenTree};
+ghost use Rattle.view.specs.View.{AcceptedTable, Filled, Looked, seenTree};
 
 // What a look at a shared table gives: the verdict on table and party, and how many numbers the tree has that the party sees.
 pub struct Sight {
@@ -78,17 +78,6 @@ pub fn look(tree: &[u16], party: u16, table: &mut [u16]) -> Sight
     }
 }
 
-// A verdict as a reply with a number of numbers.
-fn made_reply(v: model::Reply, count: usize) -> model::MadeReply
-    ensures { λ r. ⌜ r ≡ made v count ⌝ }
-{
-    model::MadeReply {
-        number: v.number,
-        place: v.place,
-        count: count,
-    }
-}
-
 // The service: the tree that a party sees, at the front of the buffer.
 pub fn seen(tree: &[u16], party: u16, table: &mut [u16]) -> model::MadeReply
     ensures { λ r. ⌜ Leaves (seenTree (now (tree .entry)) party (now (table .entry))) r (now (table .exit)) ⌝ }
@@ -97,13 +86,13 @@ pub fn seen(tree: &[u16], party: u16, table: &mut [u16]) -> model::MadeReply
     let sight = look(tree, party, &mut own);
     let v = sight.reply;
     if v.number != 0 {
-        return made_reply(v, 0);
+        return model::made_reply(v, 0);
     }
     let count = sight.count;
     let w = checks::check_room(table.len(), count);
     if w.number != 0 {
-        return made_reply(w, 0);
+        return model::made_reply(w, 0);
     }
     model::copy(&own, count, table);
-    made_reply(w, count)
+    model::made_reply(w, count)
 }

@@ -1,0 +1,117 @@
+-- Laws for the service: what the checks secure, the verdict, and what a refused call and an accepted one leave.
+use Prim.Native.Nat.{ℕ, _*_, _≤_, _<_}
+use native.Mathlib.Omega.{arith}
+use mathlib.Core.Path.{_≡_, refl, sym, ap, _∙_}
+use mathlib.Core.Bool.{true, false, not, cond, _&&_, _||_}
+use mathlib.Core.List.{List, _++_}
+use lib.ListN.{length, take, drop}
+use lib.Dec.{ltb, eqb}
+use borrow.Author.Tests.{ltb-false, eqb-true, eq-eqb, ne-eqb, not-false}
+use Rattle.model.specs.declared.Reply.{Reply}
+use Rattle.model.specs.declared.MadeReply.{MadeReply}
+use Rattle.model.specs.QueryTable.{entriesOf, kind, left, right, tag, entry}
+use Rattle.model.specs.Kinds.{namesVariable, hasRight}
+use Rattle.model.specs.Encoding.{pathTerm}
+use Rattle.model.specs.Refusals.{reply, making, verdict}
+use Rattle.model.specs.Checks.{badStep, badVariable, badUnnamed, badEntry, queryChecks, roomChecks}
+use Rattle.model.specs.Services.{Leaves}
+use Rattle.model.proofs.Booleans.{Seen, yes!, no!, seen, no-yes, no-or, guarded}
+use Rattle.model.proofs.Exists.{none-of}
+use Rattle.model.proofs.Encoding.{length-encode}
+use Rattle.model.proofs.Refusals.{Passes, numbered, accepted, stop-all, pass-all, written-not, written-over}
+use Rattle.model.proofs.Accepted.{query-shaped, query-numbered}
+use Rattle.reversal.specs.Building.{Reversible, Makes}
+use Rattle.reversal.specs.Service.{reversedQuery, reversedSize, reversedTable, sizeChecks, reverseChecks, reverseVerdict, leaving, reversal}
+
+-- an accepted query can be reversed
+module _ (q : List ℕ) (least columns : ℕ) (checked : Passes (queryChecks q least columns)) where
+  module _ (e : ℕ) (within : e < entriesOf q) where
+    fields : (badStep (entry q e) ≡ false) × ((badVariable columns (entry q e) || badUnnamed (entry q e)) ≡ false)
+    unfolding queryChecks Passes badEntry
+    fields =
+        no-or (badStep (entry q e)) (badVariable columns (entry q e) || badUnnamed (entry q e))
+        (none-of (entriesOf q) (badEntry q columns 11) e (checked .1 .1 .1 .0) within)
+
+    axis-at : kind q e ≡ 0 → left q e ≤ 12
+    axis-at h = ltb-false 12 (left q e) (guarded (eqb (kind q e) 0) (ltb 12 (left q e)) (fields .0) (eq-eqb (kind q e) 0 h))
+
+    untagged-at : namesVariable (kind q e) ≡ true → tag q e ≡ 0
+    unfolding namesVariable
+    untagged-at h =
+        let u = no-or (badVariable columns (entry q e)) (badUnnamed (entry q e)) (fields .1) .1 in
+        let t = no-or (not (hasRight (kind q e)) && not (eqb (right q e) 0)) (not (eqb (kind q e) 0) && not (eqb (tag q e) 0)) u .1 in
+        go t (seen (eqb (kind q e) 0))
+      where
+        go : (not (eqb (kind q e) 0) && not (eqb (tag q e) 0)) ≡ false → Seen (eqb (kind q e) 0) → tag q e ≡ 0
+        go t (yes! k) = no-yes (rw (eqb-true (kind q e) 0 k)) h
+        go t (no! k) = eqb-true (tag q e) 0 (not-false (eqb (tag q e) 0) (guarded (not (eqb (kind q e) 0)) (not (eqb (tag q e) 0)) t (rw k)))
+
+  pub reversible : Reversible q
+  reversible = record { formed = query-shaped q least columns checked .formed; axis = axis-at; untagged = untagged-at }
+
+-- the verdict on what is made, where more than 64 entries are counted as 65
+
+too-many : (n room : ℕ) → ltb 64 n ≡ true → verdict (sizeChecks n room) ≡ reply 26 0
+unfolding verdict sizeChecks
+too-many n room h = rw h
+
+same-made : (n entries room : ℕ) → entries ≡ cond (ltb 64 n) 65 n → verdict (sizeChecks entries room) ≡ verdict (sizeChecks n room)
+same-made n entries room e = go (seen (ltb 64 n))
+  where
+    go : Seen (ltb 64 n) → verdict (sizeChecks entries room) ≡ verdict (sizeChecks n room)
+    go (yes! h) = ap (λ (i : ℕ). verdict (sizeChecks i room)) (e ∙ rw h) ∙ too-many 65 room refl ∙ sym (too-many n room h)
+    go (no! h) = ap (λ (i : ℕ). verdict (sizeChecks i room)) (e ∙ rw h)
+
+pub size-passes : (entries room : ℕ) (u : Reply) → u ≡ verdict (sizeChecks entries room) → u .number ≡ 0 → (entries ≤ 64) × (4 * entries ≤ room)
+unfolding sizeChecks roomChecks numbered Passes
+size-passes entries room u f z =
+    let w = accepted (sizeChecks entries room) refl (sym (ap (λ (r : Reply). r .number) f) ∙ z) in
+    (ltb-false 64 entries (w .0), ltb-false room (4 * entries) (w .1 .0))
+
+-- what a call leaves that is refused, and one that is accepted
+module _ (r : MadeReply) (u v : Reply) (same : u ≡ v) (table out : List ℕ) where
+  leaves-none : r ≡ making u 0 → (u .number ≡ 0 → ⊥) → Leaves (leaving v table out) r out
+  leaves-none p z =
+      (p ∙ ap (λ (v : Reply). making v 0) same ∙ rw (ne-eqb (v .number) 0 (λ h. z (ap (λ (v : Reply). v .number) same ∙ h))), written-not u v table out same z)
+
+  leaves-table : (n : ℕ) (after : List ℕ) → r ≡ making u n → after ≡ table ++ drop n out → u .number ≡ 0 → length table ≡ n → Leaves (leaving v table out) r after
+  leaves-table n after p a z l =
+      (p ∙ ap (λ (v : Reply). making v n) same ∙ rw (eq-eqb (v .number) 0 (sym (ap (λ (v : Reply). v .number) same) ∙ z), l), written-over u v table out after n a same z l)
+
+-- a call, by the verdict v on its query
+module _ (q : List ℕ) (columns : ℕ) (out : List ℕ) (v : Reply) (checked : v ≡ verdict (queryChecks q 0 columns)) where
+  pub query-refused : (r : MadeReply) → r ≡ making v 0 → (v .number ≡ 0 → ⊥) → Leaves (reversal q columns out) r out
+  unfolding reversal reverseChecks
+  query-refused r p z =
+      leaves-none r v (reverseVerdict q columns out) (stop-all (queryChecks q 0 columns) (sizeChecks (reversedSize q) (length out)) v checked z) (reversedTable q) out p z
+
+  module _ (fine : v .number ≡ 0) where
+    pub checks-passed : Passes (queryChecks q 0 columns)
+    checks-passed = accepted (queryChecks q 0 columns) (query-numbered q 0 columns) (sym (ap (λ (r : Reply). r .number) checked) ∙ fine)
+
+    -- and by the verdict u on the table that was made of it
+    module _ (entries : ℕ) (table : List ℕ) (w : Makes (reversedQuery q) entries table) (u : Reply) (weighed : u ≡ verdict (sizeChecks entries (length out))) (r : MadeReply) where
+      same-verdict : u ≡ reverseVerdict q columns out
+      unfolding reverseChecks
+      same-verdict =
+          pass-all (queryChecks q 0 columns) (sizeChecks (reversedSize q) (length out)) v u
+          (weighed ∙ same-made (reversedSize q) entries (length out) (w .counted)) checked fine (query-numbered q 0 columns)
+
+      pub made-refused : r ≡ making u 0 → (u .number ≡ 0 → ⊥) → Leaves (reversal q columns out) r out
+      unfolding reversal
+      made-refused p z = leaves-none r u (reverseVerdict q columns out) same-verdict (reversedTable q) out p z
+
+      pub made-accepted : (after : List ℕ) → r ≡ making u (4 * entries) → after ≡ take (4 * entries) table ++ drop (4 * entries) out → u .number ≡ 0 → Leaves (reversal q columns out) r after
+      unfolding reversal
+      made-accepted after p a z = go (seen (ltb 64 (reversedSize q)))
+        where
+          go : Seen (ltb 64 (reversedSize q)) → Leaves (reversal q columns out) r after
+          go (yes! h) =
+              let f : entries ≡ 65 = w .counted ∙ rw h in
+              let l = size-passes entries (length out) u weighed z .0 in
+              absurd (omega arith)
+          go (no! h) =
+              let f : entries ≡ reversedSize q = w .counted ∙ rw h in
+              leaves-table r u (reverseVerdict q columns out) same-verdict (reversedTable q) out (4 * entries) after p
+              (a ∙ ap (λ (l : List ℕ). l ++ drop (4 * entries) out) (ap (λ (i : ℕ). take (4 * i) table) f ∙ w .front (ltb-false 64 (reversedSize q) h)))
+              z (length-encode (pathTerm (reversedQuery q)) 0 ∙ ap (λ (i : ℕ). 4 * i) (sym f))

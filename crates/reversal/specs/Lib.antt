@@ -1,0 +1,3 @@
+pub mod Reversed
+pub mod Building
+pub mod Service

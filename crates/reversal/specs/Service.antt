@@ -1,0 +1,47 @@
+-- The service as a total function.
+use Prim.Native.Nat.{ℕ, _*_}
+use mathlib.Core.Bool.{cond}
+use mathlib.Core.List.{List, _∷_, _++_}
+use lib.ListN.{length}
+use lib.Dec.{ltb, eqb}
+use Rattle.model.specs.declared.Reply.{Reply}
+use Rattle.model.specs.declared.MadeReply.{MadeReply}
+use Rattle.model.specs.Syntax.{Path}
+use Rattle.model.specs.QueryTable.{pathAt, lastOf}
+use Rattle.model.specs.Encoding.{pathTerm, size, tableOf}
+use Rattle.model.specs.Refusals.{Check, refuse, making, verdict, written}
+use Rattle.model.specs.Checks.{queryChecks, roomChecks}
+use Rattle.reversal.specs.Reversed.{reversed}
+
+-- the query of a table, reversed
+unfoldable pub reversedQuery : List ℕ → Path
+reversedQuery q = reversed (pathAt q (lastOf q))
+
+-- how many entries it has
+abbrev pub reversedSize : List ℕ → ℕ
+reversedSize q = size (pathTerm (reversedQuery q))
+
+-- its table (document 01: a query table that is made): a left operand's entries all before the right's
+abbrev pub reversedTable : List ℕ → List ℕ
+reversedTable q = tableOf (reversedQuery q)
+
+-- 26: a query that is made has more than 64 entries; 20: the buffer has room for less than its table
+unfoldable pub sizeChecks : ℕ → ℕ → List Check
+sizeChecks entries room = refuse 26 (ltb 64 entries) ∷ roomChecks room (4 * entries)
+
+-- 8 to 15, then 26 and 20
+unfoldable pub reverseChecks : List ℕ → ℕ → ℕ → List Check
+reverseChecks q columns room = queryChecks q 0 columns ++ sizeChecks (reversedSize q) room
+
+-- the verdict on a query, its number of variables and the buffer
+abbrev pub reverseVerdict : List ℕ → ℕ → List ℕ → Reply
+reverseVerdict q columns out = verdict (reverseChecks q columns (length out))
+
+-- what a call with a verdict leaves that makes a table: the verdict with how many numbers the table has, 0 at a refusal; and the buffer
+-- with the table at its front, or as it was
+abbrev pub leaving : Reply → List ℕ → List ℕ → MadeReply × List ℕ
+leaving v table out = (making v (cond (eqb (v .number) 0) (length table) 0), written v table out)
+
+-- what the service leaves
+unfoldable pub reversal : List ℕ → ℕ → List ℕ → MadeReply × List ℕ
+reversal q columns out = leaving (reverseVerdict q columns out) (reversedTable q) out
