@@ -290,9 +290,9 @@
  * 8  REVERSED QUERIES
  *
  * gz_reverse makes the query table of a query turned round. On every tree and under every assignment the reversed query has the pair (y, x)
- * exactly if the query has (x, y). So gz_forwards over it replies and writes what gz_backwards does over the query, and the reverse; the
- * answers are the query's own; and gz_quick_page takes either if it takes the other. It is made of the query's parts, the innermost first.
- * With a' for a reversed:
+ * exactly if the query has (x, y). So gz_forwards over it replies and writes what gz_backwards does over the query, and the reverse, and
+ * the answers are the query's own. It keeps the rule of section 5 exactly if the query does, so that gz_quick_page takes both or neither.
+ * It is made of the query's parts, the innermost first. With a' for a reversed:
  *
  *     kind                typed          reversed                                                                    entries
  *      0  step            axis::test     self::test/converse::node()                                                 3
@@ -323,9 +323,17 @@
  *         1, 3, 6, 0,      entry 7   entry 3 composed with entry 6
  *     };
  *
- * A reversed query has more entries than the query, and is refused (26) if it has more than 64. k steps composed, 2 k - 1 entries, become
- * 4 k - 1: 16 steps can be reversed, into 63 entries, and 17 cannot. A query that is reversed twice has its own pairs again, but not its
- * own entries: child::3 becomes self::3/parent::node(), and that becomes (self::node()/child::node())/(self::3/self::node()).
+ * The nodes from which the query of section 3 reaches a set, by the query turned round; made.count is 60, 15 entries:
+ *
+ *     uint16_t out[256];
+ *     gz_made_reply made = gz_reverse(query, 28, 2, out, 256);
+ *     gz_forwards(tree, 18, 1, out, made.count, 2, nodes, 2, from, 6, to, 6);
+ *
+ * A reversed query has more entries than the query, and the call is refused (26) if they are more than 64. k steps composed, 2 k - 1
+ * entries, become 4 k - 1: 16 steps can be reversed, into 63 entries, and 17 cannot. It also has more levels (section 3), so that a call
+ * over it may take more stack than one over the query (section 1): a step has 2 where it had 1, a variable 4. A query that is reversed
+ * twice has its own pairs again, but not its own entries: child::3 becomes self::3/parent::node(), and that becomes
+ * (self::node()/child::node())/(self::3/self::node()).
  *
  *
  * 9  INDEXES

@@ -1,8 +1,8 @@
-// The query turned round: a query table made from another, whose pairs are the other's, swapped. It is made from the query's parts,
-// innermost first, into a table of 64 entries aside, so that a refused call writes nothing.
+// The query turned round (document 02, §10): a query table made from another, whose pairs are the other's, swapped. It is made from the
+// query's parts, innermost first, into a table of 64 entries aside, so that a refused call writes nothing.
 //
-// Cost: each entry of the query is read once and makes at most eight, a few operations each. Functions call themselves as deep as the
-// query nests.
+// Cost: the check, and then each entry of the query is read once and makes at most eight, a few operations each. Functions call
+// themselves as deep as the query nests.
 ghost use mathlib.Core.Path.{_≡_};
 ghost use mathlib.Core.Bool.{cond, true};
 ghost use Prim.Native.Nat.{_≤_, _<_};
