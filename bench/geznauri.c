@@ -41,17 +41,24 @@ static void found(uint8_t *set)
 
 const struct engine geznauri_engine = {"this engine", open_document, compile, call, found};
 
+/* The query that is asked backwards, while the one turned round is the current one. */
+static const struct query *asked;
+
+static void compile_backwards(const struct query *query)
+{
+    asked = query;
+}
+
 static void call_backwards(size_t start)
 {
     from[last] = 0;
     from[start] = 1;
     last = start;
-    reply = gz_backwards(table, 3 * count, 1, current->table, current->length, 0, NULL, 0, from, count, to, count);
+    reply = gz_backwards(table, 3 * count, 1, asked->table, asked->length, 0, NULL, 0, from, count, to, count);
 }
 
-const struct engine backwards_engine = {"this engine backwards", open_document, compile, call_backwards, found};
+const struct engine backwards_engine = {"this engine backwards", open_document, compile_backwards, call_backwards, found};
 
-/* The query turned round. */
 static uint16_t reversed[256];
 static struct query turned;
 

@@ -290,9 +290,10 @@
  * 8  REVERSED QUERIES
  *
  * gz_reverse makes the query table of a query turned round. On every tree and under every assignment the reversed query has the pair (y, x)
- * exactly if the query has (x, y). So gz_forwards over it replies and writes what gz_backwards does over the query, and the reverse, and
- * the answers are the query's own. It keeps the rule of section 5 exactly if the query does, so that gz_quick_page takes both or neither.
- * It is made of the query's parts, the innermost first. With a' for a reversed:
+ * exactly if the query has (x, y). So with the same columns gz_forwards over it replies and writes what gz_backwards does over the query,
+ * and the reverse, and the answers are the query's own. It is also made so that it keeps the rule of section 5 exactly if the query does,
+ * which is tried and not proved: gz_quick_page takes both or neither. The parts of the query are reversed, the innermost first. With a' for
+ * a reversed:
  *
  *     kind                typed          reversed                                                                    entries
  *      0  step            axis::test     self::test/converse::node()                                                 3

@@ -3164,9 +3164,9 @@ static void random_reversals(void)
         random_path(draw(8));
         if (random_entries > 64)
             continue;
-        gz_read_reply r = read_typed(type_path, random_query, random_entries, table), s = {0};
+        gz_read_reply r = read_typed(type_path, random_query, random_entries, table);
         expect(r.number == 23 || (r.number == 0 && r.count == 4 * random_entries), "gz_read", "a random query", "reply");
-        s = read_typed(type_reverse, random_query, random_entries, due);
+        gz_read_reply s = read_typed(type_reverse, random_query, random_entries, due);
         expect(s.number == 23 || s.number == 26 || s.number == 0, "gz_read", "a random query, reversed", "reply");
         if (r.number == 23 || s.number == 23) {
             unread_texts++;

@@ -17,7 +17,7 @@
 #define PATTERN 0xA5
 #define NESTING (70 * 1024) /* for a query that nests */
 #define WRITTEN (64 * 1024) /* for pairs in bytes of every query */
-#define TURNED (32 * 1024) /* for the reversing of every query */
+#define REVERSED (32 * 1024) /* for the reversing of every query */
 #define SIZE ((size_t)1 << 20)
 
 static const uint16_t tree[] = {65535, 1, 0};
@@ -221,7 +221,7 @@ static size_t reversed(void)
 {
     size_t took = taken(reversing) - taken(nothing);
     most(&most_reversed, took);
-    if (took >= TURNED)
+    if (took >= REVERSED)
         wrong = 1;
     return took;
 }
@@ -616,12 +616,12 @@ static void shapes_with_variables(void)
     printf("quick pages at most %zu bytes, pages %zu, and %zu for one level\n", most_quick, most_page, most_one_page);
 }
 
-/* What is reversed at the bottom of as many stars as there is room for: a step, a variable, and a filter; and a filter that is copied
-   with as many nots as there is room for. */
+/* What is reversed at the bottom of as many stars as there is room for: a step, a variable, a filter, and a path from the root; and a
+   filter that is copied with as many nots as there is room for. */
 static void shapes_reversed(void)
 {
-    static const uint16_t bottoms[][3][3] = {{{0}}, {{6, 2}}, {{0}, {12, 2}, {5, 0, 1}}};
-    static const size_t lengths[] = {1, 1, 3};
+    static const uint16_t bottoms[][3][3] = {{{0}}, {{6, 2}}, {{0}, {12, 2}, {5, 0, 1}}, {{0}, {7, 0}}};
+    static const size_t lengths[] = {1, 1, 3, 2};
     for (size_t i = 0; i < sizeof lengths / sizeof *lengths; i++) {
         entries = 0;
         for (size_t e = 0; e < lengths[i]; e++)

@@ -2,7 +2,8 @@
 """The examples of docs/REFERENCE.md are right by tests/support/reference.py: what stands on each axis, a relation as bytes and as
 bits, the calls of a quick page, the index, the tables of reversed queries by their pairs, the job file byte for byte, and what the
 program prints for it. The worked readings and refusals of typed queries, and the queries that keep or break the rule of quick pages,
-are lines of tests/boundary.c, which holds the library to them."""
+are lines of tests/boundary.c, which holds the library to them; the tables of reversed queries, entry for entry, are lines of
+crates/turning/stdin."""
 import itertools, os, re, struct, sys
 sys.dont_write_bytecode = True
 sys.path.insert(0, os.path.join(os.path.dirname(__file__), "..", "support"))
@@ -76,13 +77,16 @@ for queries, told in re.findall(r"^\| ((?:`[^`]+`(?:; )?)+) \| (kept.*|29 at .*)
     replies = ["29, %s" % place for place in places] or ["0, 0"]
     rules += zip(queries, replies if len(replies) > 1 else replies * len(queries))
 
-# `query` | `reversed query` | entries: the pairs are swapped, whatever node the variable has
+# `query` | `reversed query` | entries: the pairs are swapped, whatever node the variable has, and the entries are tried
 REVERSED = {"child::3": "0 1 0 3", "child::2/child::3": "0 1 0 2 0 1 0 3 1 0 1 0", "child::2[child::3]": "0 1 0 2 0 1 0 3 8 1 0 0 5 0 2 0",
             "$0": "6 0 0 0", "/child::2": "0 1 0 2 7 0 0 0", "(child::3)*": "0 1 0 3 13 0 0 0"}
 reversals = re.findall(r"^\| `([^`]+)` \| `[^`]+` \| ((?:`[\d ]+`(?:, )?)+) \|$", section("Reversed queries"), re.M)
 if [written for written, _ in reversals] != list(REVERSED):
     problems.append("the worked tables of reversed queries are not those of %s" % ", ".join(REVERSED))
+tables = re.findall(r"^reverse 0 0 \| \d+ \d+ \| ([\d ]+) \| ([\d ]+)$", read("crates/turning/stdin"), re.M)
 for written, entries in reversals:
+    if (REVERSED[written], " ".join(re.findall(r"\d+", entries))) not in tables:
+        problems.append("crates/turning/stdin does not try the table of %s reversed" % written)
     for node in range(tree.n):
         there, back = [relation(tree, list(map(int, re.findall(r"\d+", e))), [node]) for e in (REVERSED[written], entries)]
         if any(there[x] >> y & 1 != back[y] >> x & 1 for x in range(tree.n) for y in range(tree.n)):

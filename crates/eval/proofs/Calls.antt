@@ -34,9 +34,6 @@ either-operand false p a b = rw p b
 -- the kinds that have each sort of operand
 
 module _ {k : ℕ} where
-  pub path-on-left : 0 < k → k < 6 → leftPath k ≡ true
-  path-on-left a b = left-path-by k ∙ or-left (ltb 0 k && ltb k 6) _ (both-yes (lt-ltb 0 k a) (lt-ltb k 6 b))
-
   pub root-on-left : k ≡ 7 → leftPath k ≡ true
   unfolding leftPath
   root-on-left h = rw h
@@ -52,9 +49,6 @@ module _ {k : ℕ} where
   pub same-on-both : k ≡ 14 → (leftPath k ≡ true) × (rightPath k ≡ true)
   unfolding leftPath rightPath
   same-on-both h = (rw h, rw h)
-
-  pub path-on-right : 0 < k → k < 5 → rightPath k ≡ true
-  path-on-right a b = right-path-by k ∙ or-left (ltb 0 k && ltb k 5) _ (both-yes (lt-ltb 0 k a) (lt-ltb k 5 b))
 
   pub expr-on-left : 8 < k → k < 12 → leftExpr k ≡ true
   expr-on-left a b = left-expr-by k ∙ both-yes (lt-ltb 8 k a) (lt-ltb k 12 b)

@@ -28,7 +28,8 @@ use Rattle.model.proofs.Closure.{closed-turn}
 use Rattle.sets.specs.NodeSets.{always, only, combine, combination}
 use Rattle.sets.proofs.Images.{memb-upto, upto-cong, only-upto, combine-upto, trim-upto, image-cong, image-from, image-turned, image-compose, image-or, image-keep, image-kept, image-all, image-one}
 use Rattle.eval.specs.Evaluation.{Ready, passing, passed, reached, row, joined, ending}
-use Rattle.eval.proofs.Calls.{left-path, right-path, left-expr, right-expr, path-on-left, path-on-right, variable-small}
+use Rattle.model.proofs.KindTests.{path-on-left, path-on-right}
+use Rattle.eval.proofs.Calls.{left-path, right-path, left-expr, right-expr, variable-small}
 
 -- pairs that end in a set
 

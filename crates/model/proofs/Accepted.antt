@@ -134,11 +134,11 @@ module _ (q : List ℕ) (least columns : ℕ) (b : Passes (queryChecks q least c
     unfolding queryChecks Passes badEntry
     known-at = ltb-false 14 (kind q e) (none 10 (b .1 .1 .0))
 
-    fields-at : (badStep (entry q e) ≡ false) × ((badVariable columns (entry q e) || badUnnamed (entry q e)) ≡ false)
+    pub fields-at : (badStep (entry q e) ≡ false) × ((badVariable columns (entry q e) || badUnnamed (entry q e)) ≡ false)
     unfolding queryChecks Passes badEntry
     fields-at = no-or (badStep (entry q e)) (badVariable columns (entry q e) || badUnnamed (entry q e)) (none 11 (b .1 .1 .1 .0))
 
-    axis-at : kind q e ≡ 0 → left q e ≤ 12
+    pub axis-at : kind q e ≡ 0 → left q e ≤ 12
     axis-at h =
         ltb-false 12 (left q e) (guarded (eqb (kind q e) 0) (ltb 12 (left q e)) (fields-at .0) (eq-eqb (kind q e) 0 h))
 

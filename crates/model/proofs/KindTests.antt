@@ -1,11 +1,12 @@
 -- The table of kinds as tests of a kind's number, for kinds that are not known.
-use Prim.Native.Nat.{ℕ, zero, suc}
+use Prim.Native.Nat.{ℕ, zero, suc, _<_}
 use native.Mathlib.Omega.{arith}
-use mathlib.Core.Path.{_≡_, refl}
-use mathlib.Core.Bool.{_&&_, _||_}
+use mathlib.Core.Path.{_≡_, refl, _∙_}
+use mathlib.Core.Bool.{true, _&&_, _||_}
 use lib.Dec.{ltb, eqb}
 use borrow.Author.Tests.{lt-ltb, le-ltb, ne-eqb}
 use Rattle.model.specs.Kinds.{isPath, leftPath, leftExpr, rightPath, rightExpr, namesVariable}
+use Rattle.model.proofs.Booleans.{both-yes, or-left}
 
 -- a number that is no kind
 abbrev beyond : ℕ → ℕ
@@ -59,3 +60,12 @@ right-expr-by = each-kind (λ k. rightExpr k ≡ (eqb k 5 || (eqb k 10 || eqb k 
 pub names-variable-by : (k : ℕ) → namesVariable k ≡ (eqb k 6 || eqb k 12)
 unfolding namesVariable
 names-variable-by = each-kind (λ k. namesVariable k ≡ (eqb k 6 || eqb k 12)) refl refl refl refl refl refl refl refl refl refl refl refl refl refl refl (λ k. rw (ne-eqb (beyond k) 6 (λ e. omega arith), ne-eqb (beyond k) 12 (λ e. omega arith)) refl)
+
+-- the kinds from 1 on that have a path on the left, and on the right
+
+module _ {k : ℕ} where
+  pub path-on-left : 0 < k → k < 6 → leftPath k ≡ true
+  path-on-left a b = left-path-by k ∙ or-left (ltb 0 k && ltb k 6) _ (both-yes (lt-ltb 0 k a) (lt-ltb k 6 b))
+
+  pub path-on-right : 0 < k → k < 5 → rightPath k ≡ true
+  path-on-right a b = right-path-by k ∙ or-left (ltb 0 k && ltb k 5) _ (both-yes (lt-ltb 0 k a) (lt-ltb k 5 b))

@@ -6,12 +6,15 @@ use mathlib.Core.Bool.{Bool, true, false, cond, _&&_}
 use mathlib.Core.List.{List, [], _∷_, _++_}
 use lib.Dec.{ltb, eqb}
 use lib.ListN.{length, drop}
-use borrow.Author.Tests.{le-ltb, eq-eqb, ne-eqb}
+use borrow.Author.Tests.{le-ltb, eqb-true, eq-eqb, ne-eqb}
 use Rattle.model.specs.Sets.{any}
-use Rattle.model.specs.Refusals.{Check, lowest, refuseHere, refuseAt, reply, counting, verdict, written}
+use Rattle.model.specs.Refusals.{Check, lowest, refuseHere, refuseAt, reply, counting, making, verdict, written}
+use Rattle.model.specs.Services.{Leaves, leaving}
 use Rattle.model.specs.declared.Reply.{Reply}
 use Rattle.model.specs.declared.ImageReply.{ImageReply}
-use Rattle.model.proofs.Booleans.{no-yes, yes-left, yes-right}
+use Rattle.model.specs.declared.MadeReply.{MadeReply}
+use Rattle.model.proofs.Booleans.{Seen, seen, no-yes, yes-left, yes-right}
+use Rattle.model.proofs.Booleans.Seen.{yes!, no! }
 use Rattle.model.proofs.Exists.{any-end, lowest-at, lowest-none, lowest-found, lowest-past}
 
 -- the laws of a verdict, from its end to its front
@@ -112,6 +115,30 @@ none-refused (c ∷ cs) w = rw (w .0) (none-refused cs (w .1))
 pub all-pass : (cs : List Check) → Passes cs → verdict cs .number ≡ 0
 all-pass cs w = ap (λ (r : Reply). r .number) (none-refused cs w)
 
+-- two lists of checks: where the first accepts, the second decides
+pub by-front : (a b c : List Check) → numbered a ≡ true → (verdict a .number ≡ 0 → verdict b ≡ verdict c) → verdict (a ++ b) ≡ verdict (a ++ c)
+by-front a b c n f = go (seen (eqb (verdict a .number) 0))
+  where
+    go : Seen (eqb (verdict a .number) 0) → verdict (a ++ b) ≡ verdict (a ++ c)
+    go (yes! h) =
+        let z = eqb-true (verdict a .number) 0 h in
+        sym (pass-all a b (verdict a) (verdict b) refl refl z n) ∙ f z ∙ pass-all a c (verdict a) (verdict c) refl refl z n
+    go (no! h) =
+        let z : (verdict a .number ≡ 0 → ⊥) = λ g. no-yes h (eq-eqb (verdict a .number) 0 g) in
+        sym (stop-all a b (verdict a) refl z) ∙ stop-all a c (verdict a) refl z
+
+-- two lists with the same verdict, before the same checks
+pub same-front : (a b c : List Check) → numbered a ≡ true → numbered b ≡ true → verdict a ≡ verdict b → verdict (a ++ c) ≡ verdict (b ++ c)
+same-front a b c n m e = go (seen (eqb (verdict a .number) 0))
+  where
+    go : Seen (eqb (verdict a .number) 0) → verdict (a ++ c) ≡ verdict (b ++ c)
+    go (yes! h) =
+        let z = eqb-true (verdict a .number) 0 h in
+        sym (pass-all a c (verdict a) (verdict c) refl refl z n) ∙ pass-all b c (verdict a) (verdict c) refl e z m
+    go (no! h) =
+        let z : (verdict a .number ≡ 0 → ⊥) = λ g. no-yes h (eq-eqb (verdict a .number) 0 g) in
+        sym (stop-all a c (verdict a) refl z) ∙ stop-all b c (verdict a) e z
+
 -- the reply of a call that counts: 0 where it is refused
 
 module _ (r : ImageReply) (v w : Reply) (same : v ≡ w) where
@@ -134,3 +161,14 @@ written-not r v front to p z = rw (ne-eqb (v .number) 0 (λ h. z (ap (λ (r : Re
 pub written-over : (r v : Reply) (front to after : List ℕ) (n : ℕ) → after ≡ front ++ drop n to → r ≡ v → r .number ≡ 0 → length front ≡ n → after ≡ written v front to
 unfolding written
 written-over r v front to after n a p z l = a ∙ rw (eq-eqb (v .number) 0 (ap (λ (r : Reply). r .number) (sym p) ∙ z), l)
+
+-- what a call leaves that makes a table: refused, and accepted
+
+module _ (r : MadeReply) (u v : Reply) (same : u ≡ v) (table out : List ℕ) where
+  pub leaves-none : r ≡ making u 0 → (u .number ≡ 0 → ⊥) → Leaves (leaving v table out) r out
+  leaves-none p z =
+      (p ∙ ap (λ (v : Reply). making v 0) same ∙ rw (ne-eqb (v .number) 0 (λ h. z (ap (λ (v : Reply). v .number) same ∙ h))), written-not u v table out same z)
+
+  pub leaves-table : (n : ℕ) (after : List ℕ) → r ≡ making u n → after ≡ table ++ drop n out → u .number ≡ 0 → length table ≡ n → Leaves (leaving v table out) r after
+  leaves-table n after p a z l =
+      (p ∙ ap (λ (v : Reply). making v n) same ∙ rw (eq-eqb (v .number) 0 (sym (ap (λ (v : Reply). v .number) same) ∙ z), l), written-over u v table out after n a same z l)

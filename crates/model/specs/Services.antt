@@ -8,13 +8,14 @@ use lib.Dec.{eqb}
 use lib.ListN.{length}
 use Rattle.model.specs.declared.Reply.{Reply}
 use Rattle.model.specs.declared.ImageReply.{ImageReply}
+use Rattle.model.specs.declared.MadeReply.{MadeReply}
 use Rattle.model.specs.declared.PageReply.{PageReply}
 use Rattle.model.specs.declared.Cursor.{Cursor}
 use Rattle.model.specs.Sets.{ones}
 use Rattle.model.specs.Results.{imageBytes, pairsBytes}
 use Rattle.model.specs.Answers.{Row, answers}
 use Rattle.model.specs.Pages.{Outcome, paged, unpaged}
-use Rattle.model.specs.Refusals.{counting, verdict, written}
+use Rattle.model.specs.Refusals.{counting, making, verdict, written}
 use Rattle.model.specs.Checks.{imageChecks, pairsChecks, pageChecks, quickChecks}
 use Rattle.model.specs.Parties.{overSeen}
 
@@ -78,6 +79,11 @@ PageLeaves o r c buffer = (r ≡ pageReply o) × (c ≡ o .cursor) × (buffer �
 -- what a call with one buffer leaves: a reply, and the buffer as it was left
 abbrev pub Leaves : {R : Type 0} → R × List ℕ → R → List ℕ → Type 0
 Leaves o r after = (r ≡ o .0) × (after ≡ o .1)
+
+-- what a call with a verdict leaves that makes a table: the verdict with how many numbers the table has, 0 at a refusal; and the buffer
+-- with the table at its front, or as it was
+abbrev pub leaving : Reply → List ℕ → List ℕ → MadeReply × List ℕ
+leaving v table out = (making v (cond (eqb (v .number) 0) (length table) 0), written v table out)
 
 -- forwards, or backwards where back is set
 unfoldable pub seenImage : List ℕ → ℕ → List ℕ → ℕ → List ℕ → Bool → List ℕ → List ℕ → ImageReply × List ℕ

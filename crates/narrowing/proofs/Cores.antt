@@ -15,7 +15,8 @@ use Rattle.model.proofs.Booleans.{or-left, or-right, no-yes}
 use Rattle.model.proofs.Bytes.{length-tab}
 use Rattle.sets.specs.NodeSets.{always, combination}
 use Rattle.eval.specs.Evaluation.{Ready, reached}
-use Rattle.eval.proofs.Calls.{path-on-left, root-on-left, path-on-right}
+use Rattle.model.proofs.KindTests.{path-on-left, path-on-right}
+use Rattle.eval.proofs.Calls.{root-on-left}
 use Rattle.aside.specs.Aside.{asideAt}
 use Rattle.aside.proofs.Entries.{aside-left, aside-right}
 use Rattle.pruning.specs.Pruning.{reachAt}

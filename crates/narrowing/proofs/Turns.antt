@@ -10,7 +10,8 @@ use Rattle.model.specs.Sets.{any, tab, memb, upto}
 use Rattle.model.specs.Tree.{sizeOf}
 use Rattle.model.specs.QueryTable.{entriesOf, kind, left, right, entry, lastOf}
 use Rattle.sets.specs.NodeSets.{always, combination}
-use Rattle.eval.proofs.Calls.{path-on-left, path-on-right, filter-on-right}
+use Rattle.model.proofs.KindTests.{path-on-left, path-on-right}
+use Rattle.eval.proofs.Calls.{filter-on-right}
 use Rattle.aside.specs.Aside.{NumbersTo}
 use Rattle.pruning.specs.Pruning.{reachAt}
 use Rattle.engines.specs.Engines.{Searchable}

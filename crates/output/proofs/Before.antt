@@ -12,7 +12,7 @@ use Rattle.model.specs.Refusals.{Check, verdict}
 use Rattle.model.specs.Checks.{treeChecks, queryChecks}
 use Rattle.model.specs.Parties.{sharedChecks, partyChecks, sharedVerdict}
 use Rattle.model.proofs.Booleans.{Seen, yes!, no!, seen, no-yes}
-use Rattle.model.proofs.Refusals.{numbered, accepted, stop-all, pass-all}
+use Rattle.model.proofs.Refusals.{numbered, accepted, stop-all, pass-all, by-front, same-front}
 use Rattle.model.proofs.Parties.{shared-numbered}
 use Rattle.model.proofs.Accepted.{tree-numbered}
 use Rattle.job.specs.declared.Job.{Job}
@@ -34,30 +34,6 @@ printed-same v w a b e f = ap (λ (r : Reply). printed r a) e ∙ go (seen (eqb 
     go : Seen (eqb (w .number) 0) → printed w a ≡ printed w b
     go (yes! h) = ap (printed w) (f (ap (λ (r : Reply). r .number) e ∙ eqb-true (w .number) 0 h))
     go (no! h) = rw h
-
--- two lists of checks: where the first accepts, the second decides
-by-front : (a b c : List Check) → numbered a ≡ true → (verdict a .number ≡ 0 → verdict b ≡ verdict c) → verdict (a ++ b) ≡ verdict (a ++ c)
-by-front a b c n f = go (seen (eqb (verdict a .number) 0))
-  where
-    go : Seen (eqb (verdict a .number) 0) → verdict (a ++ b) ≡ verdict (a ++ c)
-    go (yes! h) =
-        let z = eqb-true (verdict a .number) 0 h in
-        sym (pass-all a b (verdict a) (verdict b) refl refl z n) ∙ f z ∙ pass-all a c (verdict a) (verdict c) refl refl z n
-    go (no! h) =
-        let z : (verdict a .number ≡ 0 → ⊥) = λ g. no-yes h (eq-eqb (verdict a .number) 0 g) in
-        sym (stop-all a b (verdict a) refl z) ∙ stop-all a c (verdict a) refl z
-
--- two lists with the same verdict, before the same checks
-same-front : (a b c : List Check) → numbered a ≡ true → numbered b ≡ true → verdict a ≡ verdict b → verdict (a ++ c) ≡ verdict (b ++ c)
-same-front a b c n m e = go (seen (eqb (verdict a .number) 0))
-  where
-    go : Seen (eqb (verdict a .number) 0) → verdict (a ++ c) ≡ verdict (b ++ c)
-    go (yes! h) =
-        let z = eqb-true (verdict a .number) 0 h in
-        sym (pass-all a c (verdict a) (verdict c) refl refl z n) ∙ pass-all b c (verdict a) (verdict c) refl e z m
-    go (no! h) =
-        let z : (verdict a .number ≡ 0 → ⊥) = λ g. no-yes h (eq-eqb (verdict a .number) 0 g) in
-        sym (stop-all a c (verdict a) refl z) ∙ stop-all b c (verdict a) e z
 
 party-numbered : (party : ℕ) → numbered (partyChecks party) ≡ true
 unfolding partyChecks numbered

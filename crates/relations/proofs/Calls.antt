@@ -14,7 +14,8 @@ use Rattle.model.specs.QueryTable.{kind, left, right, entry}
 use Rattle.model.specs.Kinds.{isPath, leftPath, leftExpr, rightPath, rightExpr, hasLeft, hasRight}
 use Rattle.model.specs.Results.{assigned}
 use Rattle.model.proofs.Booleans.{both-yes, or-left, or-right, no-or, yes-left, yes-right, guarded}
-use Rattle.eval.proofs.Calls.{Operand, path-on-left, path-on-right, same-on-both, left-path, right-path, left-expr, right-expr}
+use Rattle.model.proofs.KindTests.{path-on-left, path-on-right}
+use Rattle.eval.proofs.Calls.{Operand, same-on-both, left-path, right-path, left-expr, right-expr}
 use Rattle.aside.specs.Aside.{asideAt, inTurn}
 use Rattle.aside.proofs.Turns.{two-kinds}
 use Rattle.aside.proofs.Entries.{aside-left, aside-right, aside-two}

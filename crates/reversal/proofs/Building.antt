@@ -1,4 +1,4 @@
--- Laws for the builder: terms written part by part, and what an entry comes to when it is reversed.
+-- Laws for the builder of the query turned round: terms written part by part, and what an entry comes to when it is reversed.
 use Prim.Native.Nat.{ℕ, zero, suc, _*_, _≤_, _<_}
 use native.Mathlib.Nat.{eq-or-lt-of-le}
 use native.Mathlib.Omega.{arith}
@@ -16,7 +16,7 @@ use Rattle.model.specs.Encoding.{Term, pathTerm, exprTerm, size, encode}
 use Rattle.model.specs.QueryTable.{entriesOf, kind, left, right, tag, entry, pathAt, exprAt}
 use Rattle.model.specs.Kinds.{isPath, leftPath, leftExpr, rightPath, rightExpr, hasLeft, hasRight, namesVariable}
 use Rattle.model.proofs.Booleans.{Seen, yes!, no!, seen, no-yes, both-yes, or-left, or-cases}
-use Rattle.model.proofs.KindTests.{is-path-by, left-path-by, right-path-by}
+use Rattle.model.proofs.KindTests.{is-path-by, path-on-left, path-on-right}
 use Rattle.model.proofs.QueryTable.{at-step, at-compose, at-union, at-intersect, at-except, at-filter, at-variable, at-root, at-closure}
 use Rattle.model.proofs.Formed.{PathBefore, Read, read, left-lower, right-lower}
 use Rattle.model.proofs.Formed.Read.{step!, compose!, union!, intersect!, except!, filter!, variable!, root!, exists!, negate!, both!, either!, is!, closure!, same! }
@@ -26,7 +26,7 @@ use Rattle.aside.proofs.Terms.Form.{none!, one!, two! }
 use Rattle.entries.specs.declared.Draft.{Draft}
 use Rattle.entries.specs.Postfix.{Item, Made, postfix, appendAll, made, blank, Sound, Wrote}
 use Rattle.entries.proofs.Postfix.{wrote-on, blank-sound, built, too-many}
-use Rattle.reversal.specs.Reversed.{converse, selfAtRoot, reversed}
+use Rattle.reversal.specs.Reversed.{converses, converse, selfAtRoot, reversed}
 use Rattle.reversal.specs.Building.{Reversible, Builds, BuildsPath, stepItems, rootItems, whereTerm, reversedAt, Makes}
 
 -- terms from their parts, the last one first
@@ -35,7 +35,7 @@ pub builds-leaf : (k l g : ℕ) (m n : Made) → Wrote (Item.leaf k l g ∷ []) 
 unfolding postfix
 builds-leaf k l g m n w = w
 
-pub builds-unary : (k : ℕ) (a : Term) (m n o : Made) → Wrote (Item.unary k ∷ []) n o → Builds a m n → Builds (Term.unary k a) m o
+builds-unary : (k : ℕ) (a : Term) (m n o : Made) → Wrote (Item.unary k ∷ []) n o → Builds a m n → Builds (Term.unary k a) m o
 unfolding postfix
 builds-unary k a m n o w u = wrote-on (postfix a) (Item.unary k ∷ []) m n o u w
 
@@ -50,7 +50,7 @@ module _ (axis : ℕ) (m n o : Made) where
   unfolding postfix
   joins-step w v = wrote-on (Item.leaf 0 axis 65534 ∷ []) (Item.binary 1 ∷ []) m n o v w
 
-  pub builds-joined : (a : Term) → Wrote (stepItems axis) n o → Builds a m n → Builds (Term.binary 1 a (Term.leaf 0 axis 65534)) m o
+  builds-joined : (a : Term) → Wrote (stepItems axis) n o → Builds a m n → Builds (Term.binary 1 a (Term.leaf 0 axis 65534)) m o
   unfolding postfix
   builds-joined a w u = wrote-on (postfix a) (stepItems axis) m n o u w
 
@@ -59,7 +59,7 @@ joins-root m n o r w v u =
     wrote-on (postfix (pathTerm selfAtRoot)) (Item.binary 1 ∷ stepItems 11) m n r u (wrote-on (Item.binary 1 ∷ []) (stepItems 11) n o r v w)
 
 -- a path with the root behind it, and every node behind that
-pub builds-rooted : (a : Term) (m n o : Made) → Wrote rootItems n o → Builds a m n → Builds (Term.binary 1 (Term.binary 1 a (pathTerm selfAtRoot)) (Term.leaf 0 11 65534)) m o
+builds-rooted : (a : Term) (m n o : Made) → Wrote rootItems n o → Builds a m n → Builds (Term.binary 1 (Term.binary 1 a (pathTerm selfAtRoot)) (Term.leaf 0 11 65534)) m o
 unfolding postfix
 builds-rooted a m n o w u =
     subst (λ (l : List Item). Wrote l m o) (regroup (postfix a) (postfix (pathTerm selfAtRoot)) (stepItems 11) (Item.binary 1))
@@ -97,9 +97,9 @@ known-at [] i a b h = absurd (omega arith)
 known-at (x ∷ xs) zero a b h = refl
 known-at (x ∷ xs) (suc i) a b h = known-at xs i a b (omega arith)
 
-pub known-converse : (a : ℕ) → a ≤ 12 → getD (0 ∷ 2 ∷ 1 ∷ 4 ∷ 3 ∷ 6 ∷ 5 ∷ 8 ∷ 7 ∷ 10 ∷ 9 ∷ 12 ∷ 11 ∷ []) a 0 ≡ converse a
+pub known-converse : (a : ℕ) → a ≤ 12 → getD converses a 0 ≡ converse a
 unfolding converse
-known-converse a h = known-at (0 ∷ 2 ∷ 1 ∷ 4 ∷ 3 ∷ 6 ∷ 5 ∷ 8 ∷ 7 ∷ 10 ∷ 9 ∷ 12 ∷ 11 ∷ []) a 0 13 (omega arith)
+known-converse a h = known-at converses a 0 13 (omega arith)
 
 -- the kinds of paths that are made of paths
 
@@ -107,15 +107,10 @@ path-kind : (k : ℕ) → isPath k ≡ true → (k ≤ 7) ⊎ (k ≡ 13)
 path-kind k h =
     ⊎-elim (λ p. _⊎_.inl (let l = ltb-true k 8 p in omega arith)) (λ p. _⊎_.inr (eqb-true k 13 p)) (or-cases (ltb k 8) (eqb k 13) (sym (is-path-by k) ∙ h))
 
-path-on-left : (k : ℕ) → isPath k ≡ true → (k ≡ 0 → ⊥) → (k ≡ 6 → ⊥) → leftPath k ≡ true
+left-of : (k : ℕ) → isPath k ≡ true → (k ≡ 0 → ⊥) → (k ≡ 6 → ⊥) → leftPath k ≡ true
 unfolding leftPath
-path-on-left k h z v = ⊎-elim (λ l. ⊎-elim (λ s. rw s) below (eq-or-lt-of-le l)) (λ s. rw s) (path-kind k h)
-  where
-    below : k < 7 → leftPath k ≡ true
-    below l =
-        left-path-by k
-        ∙ or-left (ltb 0 k && ltb k 6) (eqb k 7 || (eqb k 8 || (eqb k 13 || eqb k 14)))
-        (both-yes (lt-ltb 0 k (omega arith)) (lt-ltb k 6 (omega arith)))
+left-of k h z v =
+    ⊎-elim (λ l. ⊎-elim (λ s. rw s) (λ l. path-on-left {k = k} (omega arith) (omega arith)) (eq-or-lt-of-le l)) (λ s. rw s) (path-kind k h)
 
 -- an entry that can be reversed
 module _ (q : List ℕ) (ok : Reversible q) (e : ℕ) (within : e < entriesOf q) where
@@ -199,10 +194,10 @@ module _ (q : List ℕ) (ok : Reversible q) (e : ℕ) (within : e < entriesOf q)
 
   module _ (some : 0 < kind q e) (most : kind q e ≤ 4) where
     two-left : PathBefore q e (left q e)
-    two-left = left-path (left-path-by (kind q e) ∙ or-left (ltb 0 (kind q e) && ltb (kind q e) 6) _ (both-yes (lt-ltb 0 (kind q e) some) (lt-ltb (kind q e) 6 (omega arith))))
+    two-left = left-path (path-on-left some (omega arith))
 
     two-right : PathBefore q e (right q e)
-    two-right = ok .formed .right-path e within (right-path-by (kind q e) ∙ or-left (ltb 0 (kind q e) && ltb (kind q e) 5) _ (both-yes (lt-ltb 0 (kind q e) some) (lt-ltb (kind q e) 5 (omega arith))))
+    two-right = ok .formed .right-path e within (path-on-right some (omega arith))
 
     turned-two : turned e ≡ Term.binary (kind q e) (turned first) (turned second)
     unfolding reversed pathTerm
@@ -281,7 +276,7 @@ module _ (q : List ℕ) (ok : Reversible q) (e : ℕ) (within : e < entriesOf q)
         where
           go : (kind q e ≡ 0 → ⊥) → (kind q e ≡ 6 → ⊥) → Seen (eqb (kind q e) j) → PathBefore q e (cond (eqb (kind q e) j) (right q e) (left q e))
           go z v (yes! t) = rw t (ok .formed .right-path e within (rw (eqb-true (kind q e) j t) s))
-          go z v (no! t) = rw t (left-path (path-on-left (kind q e) h z v))
+          go z v (no! t) = rw t (left-path (left-of (kind q e) h z v))
 
       module _ (m n o : Made) (u : BuildsPath (reversedAt q x) m n) where
         alone : (k : ℕ) → eqb k j ≡ false → f .kind ≡ k → BuildsPath (reversedAt q (left q e)) m n

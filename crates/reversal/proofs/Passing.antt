@@ -91,7 +91,7 @@ module _ (q : List ℕ) (least c : ℕ) (b : Passes (queryChecks q least c)) whe
       entry-within (same! h u v p) = expr-is 14 _ refl h p (paths u v)
 
   -- for the reader: the query of an accepted table has its steps along axes, and needs no more variables than are told
-  pub accepted-within : Within c (pathAt q (lastOf q))
+  accepted-within : Within c (pathAt q (lastOf q))
   accepted-within =
       let n = entries-some q least c b in
       by-sort q PathWithin ExprWithin (reversible q least c b .formed) entry-within (lastOf q) (omega arith) .0 (last-path q least c b)
@@ -99,7 +99,7 @@ module _ (q : List ℕ) (least c : ℕ) (b : Passes (queryChecks q least c)) whe
 -- What is kept when a path is reversed.
 
 -- the converse of an axis is one
-pub converse-axis : (a : ℕ) → a < 13 → converse a < 13
+converse-axis : (a : ℕ) → a < 13 → converse a < 13
 unfolding converse
 converse-axis zero l = omega arith
 converse-axis (suc zero) l = omega arith
@@ -117,7 +117,7 @@ converse-axis (suc (suc (suc (suc (suc (suc (suc (suc (suc (suc (suc (suc zero))
 converse-axis (suc (suc (suc (suc (suc (suc (suc (suc (suc (suc (suc (suc (suc a))))))))))))) l = absurd (omega arith)
 
 -- the steps of the reversed path are along axes
-pub reversed-proper : (p : Path) → ProperSteps p → ProperSteps (reversed p)
+reversed-proper : (p : Path) → ProperSteps p → ProperSteps (reversed p)
 unfolding reversed ProperSteps ProperStepsIn
 reversed-proper (step a name) h = (omega arith, converse-axis a h)
 reversed-proper (compose p q) (h, k) = (reversed-proper q k, reversed-proper p h)

@@ -18,27 +18,18 @@ use Rattle.model.specs.Services.{Leaves}
 use Rattle.model.proofs.Booleans.{Seen, yes!, no!, seen, no-yes, no-or, guarded}
 use Rattle.model.proofs.Exists.{none-of}
 use Rattle.model.proofs.Encoding.{length-encode}
-use Rattle.model.proofs.Refusals.{Passes, numbered, accepted, stop-all, pass-all, written-not, written-over}
-use Rattle.model.proofs.Accepted.{query-shaped, query-numbered}
+use Rattle.model.proofs.Refusals.{Passes, numbered, accepted, stop-all, pass-all, leaves-none, leaves-table}
+use Rattle.model.proofs.Accepted.{fields-at, axis-at, query-shaped, query-numbered}
 use Rattle.reversal.specs.Building.{Reversible, Makes}
-use Rattle.reversal.specs.Service.{reversedQuery, reversedSize, reversedTable, sizeChecks, reverseChecks, reverseVerdict, leaving, reversal}
+use Rattle.reversal.specs.Service.{reversedQuery, reversedSize, reversedTable, sizeChecks, reverseChecks, reverseVerdict, reversal}
 
 -- an accepted query can be reversed
 module _ (q : List ℕ) (least columns : ℕ) (checked : Passes (queryChecks q least columns)) where
   module _ (e : ℕ) (within : e < entriesOf q) where
-    fields : (badStep (entry q e) ≡ false) × ((badVariable columns (entry q e) || badUnnamed (entry q e)) ≡ false)
-    unfolding queryChecks Passes badEntry
-    fields =
-        no-or (badStep (entry q e)) (badVariable columns (entry q e) || badUnnamed (entry q e))
-        (none-of (entriesOf q) (badEntry q columns 11) e (checked .1 .1 .1 .0) within)
-
-    axis-at : kind q e ≡ 0 → left q e ≤ 12
-    axis-at h = ltb-false 12 (left q e) (guarded (eqb (kind q e) 0) (ltb 12 (left q e)) (fields .0) (eq-eqb (kind q e) 0 h))
-
     untagged-at : namesVariable (kind q e) ≡ true → tag q e ≡ 0
     unfolding namesVariable
     untagged-at h =
-        let u = no-or (badVariable columns (entry q e)) (badUnnamed (entry q e)) (fields .1) .1 in
+        let u = no-or (badVariable columns (entry q e)) (badUnnamed (entry q e)) (fields-at q least columns checked e within .1) .1 in
         let t = no-or (not (hasRight (kind q e)) && not (eqb (right q e) 0)) (not (eqb (kind q e) 0) && not (eqb (tag q e) 0)) u .1 in
         go t (seen (eqb (kind q e) 0))
       where
@@ -47,7 +38,7 @@ module _ (q : List ℕ) (least columns : ℕ) (checked : Passes (queryChecks q l
         go t (no! k) = eqb-true (tag q e) 0 (not-false (eqb (tag q e) 0) (guarded (not (eqb (kind q e) 0)) (not (eqb (tag q e) 0)) t (rw k)))
 
   pub reversible : Reversible q
-  reversible = record { formed = query-shaped q least columns checked .formed; axis = axis-at; untagged = untagged-at }
+  reversible = record { formed = query-shaped q least columns checked .formed; axis = axis-at q least columns checked; untagged = untagged-at }
 
 -- the verdict on what is made, where more than 64 entries are counted as 65
 
@@ -67,16 +58,6 @@ unfolding sizeChecks roomChecks numbered Passes
 size-passes entries room u f z =
     let w = accepted (sizeChecks entries room) refl (sym (ap (λ (r : Reply). r .number) f) ∙ z) in
     (ltb-false 64 entries (w .0), ltb-false room (4 * entries) (w .1 .0))
-
--- what a call leaves that is refused, and one that is accepted
-module _ (r : MadeReply) (u v : Reply) (same : u ≡ v) (table out : List ℕ) where
-  leaves-none : r ≡ making u 0 → (u .number ≡ 0 → ⊥) → Leaves (leaving v table out) r out
-  leaves-none p z =
-      (p ∙ ap (λ (v : Reply). making v 0) same ∙ rw (ne-eqb (v .number) 0 (λ h. z (ap (λ (v : Reply). v .number) same ∙ h))), written-not u v table out same z)
-
-  leaves-table : (n : ℕ) (after : List ℕ) → r ≡ making u n → after ≡ table ++ drop n out → u .number ≡ 0 → length table ≡ n → Leaves (leaving v table out) r after
-  leaves-table n after p a z l =
-      (p ∙ ap (λ (v : Reply). making v n) same ∙ rw (eq-eqb (v .number) 0 (sym (ap (λ (v : Reply). v .number) same) ∙ z), l), written-over u v table out after n a same z l)
 
 -- a call, by the verdict v on its query
 module _ (q : List ℕ) (columns : ℕ) (out : List ℕ) (v : Reply) (checked : v ≡ verdict (queryChecks q 0 columns)) where

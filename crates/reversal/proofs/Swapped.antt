@@ -3,11 +3,11 @@ use Prim.Native.Nat.{ℕ, zero, suc, _<_}
 use native.Mathlib.Nat.{not-suc-le-zero}
 use native.Mathlib.Omega.{arith}
 use mathlib.Core.Path.{_≡_, refl, sym, ap, ap₂, _∙_}
-use mathlib.Core.Bool.{Bool, true, false, not, _&&_, _||_, and-comm}
+use mathlib.Core.Bool.{Bool, true, not, _&&_, _||_, and-comm, and-assoc, and-true}
 use lib.Dec.{eqb}
 use Rattle.model.specs.Sets.{any}
 use Rattle.model.specs.Tree.{Tree}
-use Rattle.model.specs.Axes.{following, preceding, descendantOrSelf, ancestorOrSelf, axis, passes, steps}
+use Rattle.model.specs.Axes.{axis, passes, steps}
 use Rattle.model.specs.Accepted.{Sound}
 use Rattle.model.specs.Syntax.{Path, NodeExpr}
 use Rattle.model.specs.Syntax.Path.{step, compose, union, intersect, except, filter, variable, fromRoot, closure}
@@ -15,62 +15,47 @@ use Rattle.model.specs.Syntax.NodeExpr.{exists, negate, is}
 use Rattle.model.specs.Meaning.{pairsOver, pairs, holds}
 use Rattle.model.proofs.Booleans.{no-yes, bool-ext, both-yes, yes-left, yes-right, not-yes}
 use Rattle.model.proofs.Exists.{any-cong, any-one}
-use Rattle.model.proofs.Axes.{eqb-comm, child-axis}
+use Rattle.model.proofs.Axes.{eqb-comm, child-axis, self-converse, axis-converse}
 use Rattle.model.proofs.Closure.{closed-cong, closed-turn}
-use Rattle.model.proofs.Meaning.{step-pair, compose-pair, root-pair, exists-at, negate-at}
+use Rattle.model.proofs.Meaning.{compose-pair, root-pair, exists-at, negate-at}
 use Rattle.model.proofs.Exactness.{all-pairs}
 use Rattle.reversal.specs.Reversed.{converse, toNode, selfWhere, selfAtRoot, reversed}
 
 -- for the reader: the converse of an axis has the axis's pairs, swapped, whatever the code
 pub converse-swaps : (t : Tree) (a x y : ℕ) → axis t (converse a) x y ≡ axis t a y x
-unfolding axis converse following preceding descendantOrSelf ancestorOrSelf
-converse-swaps t zero x y = eqb-comm x y
-converse-swaps t (suc zero) x y = refl
-converse-swaps t (suc (suc zero)) x y = refl
-converse-swaps t (suc (suc (suc zero))) x y = refl
-converse-swaps t (suc (suc (suc (suc zero)))) x y = refl
-converse-swaps t (suc (suc (suc (suc (suc zero))))) x y = refl
-converse-swaps t (suc (suc (suc (suc (suc (suc zero)))))) x y = refl
-converse-swaps t (suc (suc (suc (suc (suc (suc (suc zero))))))) x y = refl
-converse-swaps t (suc (suc (suc (suc (suc (suc (suc (suc zero)))))))) x y = refl
-converse-swaps t (suc (suc (suc (suc (suc (suc (suc (suc (suc zero))))))))) x y = refl
-converse-swaps t (suc (suc (suc (suc (suc (suc (suc (suc (suc (suc zero)))))))))) x y = refl
-converse-swaps t (suc (suc (suc (suc (suc (suc (suc (suc (suc (suc (suc zero))))))))))) x y = rw (eqb-comm x y)
-converse-swaps t (suc (suc (suc (suc (suc (suc (suc (suc (suc (suc (suc (suc zero)))))))))))) x y = rw (eqb-comm x y)
+unfolding axis converse
+converse-swaps t zero x y = self-converse t x y
+converse-swaps t (suc zero) x y = axis-converse t 0 x y (omega arith)
+converse-swaps t (suc (suc zero)) x y = sym (axis-converse t 0 y x (omega arith))
+converse-swaps t (suc (suc (suc zero))) x y = axis-converse t 1 x y (omega arith)
+converse-swaps t (suc (suc (suc (suc zero)))) x y = sym (axis-converse t 1 y x (omega arith))
+converse-swaps t (suc (suc (suc (suc (suc zero))))) x y = axis-converse t 2 x y (omega arith)
+converse-swaps t (suc (suc (suc (suc (suc (suc zero)))))) x y = sym (axis-converse t 2 y x (omega arith))
+converse-swaps t (suc (suc (suc (suc (suc (suc (suc zero))))))) x y = axis-converse t 3 x y (omega arith)
+converse-swaps t (suc (suc (suc (suc (suc (suc (suc (suc zero)))))))) x y = sym (axis-converse t 3 y x (omega arith))
+converse-swaps t (suc (suc (suc (suc (suc (suc (suc (suc (suc zero))))))))) x y = axis-converse t 4 x y (omega arith)
+converse-swaps t (suc (suc (suc (suc (suc (suc (suc (suc (suc (suc zero)))))))))) x y = sym (axis-converse t 4 y x (omega arith))
+converse-swaps t (suc (suc (suc (suc (suc (suc (suc (suc (suc (suc (suc zero))))))))))) x y = axis-converse t 5 x y (omega arith)
+converse-swaps t (suc (suc (suc (suc (suc (suc (suc (suc (suc (suc (suc (suc zero)))))))))))) x y = sym (axis-converse t 5 y x (omega arith))
 converse-swaps t (suc (suc (suc (suc (suc (suc (suc (suc (suc (suc (suc (suc (suc a))))))))))))) x y = refl
-
--- Booleans
-
-and-yes : (b : Bool) → (b && true) ≡ b
-and-yes true = refl
-and-yes false = refl
-
-group : (a b c d : Bool) → a ≡ b → ((a && c) && d) ≡ (b && (c && d))
-group true b c d h = rw (sym h)
-group false b c d h = rw (sym h)
-
-swap : (a b c : Bool) → (a && (b && c)) ≡ (b && (a && c))
-swap true b c = refl
-swap false true c = refl
-swap false false c = refl
 
 -- of two composed relations among n nodes, the first stays at its node, under a test
 stays-first : (n : ℕ) (P Q : ℕ → Bool) (x : ℕ) → x < n → any n (λ z. (eqb x z && P z) && Q z) ≡ (P x && Q x)
 stays-first n P Q x l =
-    any-cong n (λ z. (eqb x z && P z) && Q z) (λ z. eqb z x && (P z && Q z)) (λ z m. group (eqb x z) (eqb z x) (P z) (Q z) (eqb-comm x z))
+    any-cong n (λ z. (eqb x z && P z) && Q z) (λ z. eqb z x && (P z && Q z)) (λ z m. and-assoc (eqb x z) (P z) (Q z) ∙ ap (λ (b : Bool). b && (P z && Q z)) (eqb-comm x z))
     ∙ any-one n x (λ z. P z && Q z) l
 
 -- the second does
 stays-last : (n : ℕ) (P : ℕ → Bool) (b : Bool) (y : ℕ) → y < n → any n (λ z. P z && (eqb z y && b)) ≡ (P y && b)
 stays-last n P b y l =
-    any-cong n (λ z. P z && (eqb z y && b)) (λ z. eqb z y && (P z && b)) (λ z m. swap (P z) (eqb z y) b)
+    any-cong n (λ z. P z && (eqb z y && b)) (λ z. eqb z y && (P z && b)) (λ z m. sym (and-assoc (P z) (eqb z y) b) ∙ ap (λ (c : Bool). c && b) (and-comm (P z) (eqb z y)) ∙ and-assoc (eqb z y) (P z) b)
     ∙ any-one n y (λ z. P z && b) l
 
 module _ (t : Tree) (g : ℕ → ℕ) where
   -- axis::node()
   to-node : (a x y : ℕ) → pairs t g (toNode a) x y ≡ axis t a x y
   unfolding pairsOver steps passes
-  to-node a x y = and-yes (axis t a x y)
+  to-node a x y = and-true (axis t a x y)
 
   -- self::name
   self-named : (name x y : ℕ) → pairs t g (step 0 name) x y ≡ (eqb x y && passes t name y)
@@ -111,16 +96,14 @@ module _ (t : Tree) (g : ℕ → ℕ) where
       ∙ stays-last (t .size) (λ z. pairs t g p x z) (holds t g e y) y l
 
 module _ (t : Tree) (s : Sound t) (g : ℕ → ℕ) where
-  -- every node is node 0 or below it
-  pub under-root : (y : ℕ) → y < t .size → axis t 11 0 y ≡ true
-  under-root y l = step-pair t g 0 y 11 65534 .0 (root-pair t g 0 y (toNode 11) .0 (all-pairs t s g 0 y l)) .0
+  -- node 0 goes down to every node, and every node up to it
 
   down : (y : ℕ) → y < t .size → pairs t g (toNode 11) 0 y ≡ true
-  down y l = to-node t g 11 0 y ∙ under-root y l
+  down y l = root-pair t g 0 y (toNode 11) .0 (all-pairs t s g 0 y l)
 
   up : (x : ℕ) → x < t .size → pairs t g (toNode 12) x 0 ≡ true
   unfolding converse
-  up x l = to-node t g 12 x 0 ∙ converse-swaps t 11 x 0 ∙ under-root x l
+  up x l = to-node t g 12 x 0 ∙ converse-swaps t 11 x 0 ∙ sym (to-node t g 11 0 x) ∙ down x l
 
   -- node 0 alone has no parent
 

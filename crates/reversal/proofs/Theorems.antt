@@ -2,7 +2,7 @@
 use Prim.Native.Nat.{ℕ, _+_, _*_, _≤_, _<_}
 use native.Mathlib.Omega.{arith}
 use mathlib.Core.Path.{_≡_, refl, sym, ap, _∙_, fun-ext}
-use mathlib.Core.Bool.{Bool, true, false, not, _&&_, cond}
+use mathlib.Core.Bool.{Bool, true, false, not, _&&_, cond, Bool·not-not}
 use mathlib.Core.List.{List, [], _∷_, _++_, append-assoc}
 use lib.Dec.{ltb, eqb}
 use lib.ListN.{length, getD}
@@ -25,7 +25,7 @@ use Rattle.model.proofs.Booleans.{Seen, seen}
 use Rattle.model.proofs.Booleans.Seen.{yes!, no! }
 use Rattle.model.proofs.Exists.{any-cong, any-swap}
 use Rattle.model.proofs.Bytes.{tab-cong, getD-tab, row-fits, cell-at}
-use Rattle.model.proofs.Refusals.{Passes-front, pass-all, all-pass}
+use Rattle.model.proofs.Refusals.{Passes-front, none-refused, by-front, same-front}
 use Rattle.model.proofs.Encoding.{table-back}
 use Rattle.model.proofs.Accepted.{tree-ordered, tree-numbered, query-numbered}
 use Rattle.reversal.specs.Reversed.{reversed}
@@ -87,11 +87,7 @@ pub twice-related : (t : List ℕ) → Sound (treeOf t) → (q nodes : List ℕ)
 twice-related t s q nodes back x y lx ly =
     reversed-related t s (reversedTable q) nodes back x y lx ly
     ∙ reversed-related t s q nodes (not back) x y lx ly
-    ∙ ap (λ (b : Bool). related t q nodes (lastOf q) b x y) (not-not back)
-  where
-    not-not : (b : Bool) → not (not b) ≡ b
-    not-not true = refl
-    not-not false = refl
+    ∙ ap (λ (b : Bool). related t q nodes (lastOf q) b x y) (Bool·not-not back)
 
 -- for the reader: the reversed query has some pair under a row exactly if the query has
 pub reversed-satisfied : (t : List ℕ) → Sound (treeOf t) → (q : List ℕ) (row : Row) → satisfied t (reversedTable q) row ≡ satisfied t q row
@@ -112,12 +108,6 @@ reversed-answers t s q columns =
 
 -- What the services leave, where the query was reversed.
 
--- checks that are equal at their verdict stay so with the same checks before them
-verdict-behind : (a b c : List Check) → verdict b ≡ verdict c → verdict (a ++ b) ≡ verdict (a ++ c)
-unfolding verdict
-verdict-behind [] b c h = h
-verdict-behind (d ∷ a) b c h = ap (cond (d .fails) (reply (d .number) (d .place))) (verdict-behind a b c h)
-
 -- a reply that counts and a buffer, from bytes that are only written where the verdict accepts
 abbrev leave : Reply → List ℕ → List ℕ → ImageReply × List ℕ
 leave v bytes to = (counting v (cond (eqb (v .number) 0) (ones bytes) 0), written v bytes to)
@@ -134,11 +124,8 @@ module _ (q : List ℕ) (columns room : ℕ) (ok : verdict (reverseChecks q colu
   -- the checks behind those of the query decide, as they do behind those of the reversed one
   behind-query : (rest : List Check) → verdict (queryChecks (reversedTable q) 0 columns ++ rest) ≡ verdict (queryChecks q 0 columns ++ rest)
   behind-query rest =
-      sym (past (reversedTable q) (ap (λ (r : Reply). r .number) (reversed-passes q columns room ok)))
-      ∙ past q (all-pass (queryChecks q 0 columns) (query-passes q columns room ok))
-    where
-      past : (r : List ℕ) → verdict (queryChecks r 0 columns) .number ≡ 0 → verdict rest ≡ verdict (queryChecks r 0 columns ++ rest)
-      past r h = pass-all (queryChecks r 0 columns) rest (verdict (queryChecks r 0 columns)) (verdict rest) refl refl h (query-numbered r 0 columns)
+      same-front (queryChecks (reversedTable q) 0 columns) (queryChecks q 0 columns) rest (query-numbered (reversedTable q) 0 columns) (query-numbered q 0 columns)
+      (reversed-passes q columns room ok ∙ sym (none-refused (queryChecks q 0 columns) (query-passes q columns room ok)))
 
   module _ (t nodes from to : List ℕ) where
     -- what is judged behind the query, and behind the tree
@@ -156,10 +143,10 @@ module _ (q : List ℕ) (columns room : ℕ) (ok : verdict (reverseChecks q colu
         ∙ ap (λ (cs : List Check). treeChecks t ++ cs) (append-assoc (queryChecks r 0 columns) (nodeChecks t columns nodes) last)
 
     -- the verdicts are the same
-    pub reversed-verdict : imageVerdict t (reversedTable q) columns nodes from to ≡ imageVerdict t q columns nodes from to
+    reversed-verdict : imageVerdict t (reversedTable q) columns nodes from to ≡ imageVerdict t q columns nodes from to
     reversed-verdict =
         ap verdict (by-tree (reversedTable q))
-        ∙ verdict-behind (treeChecks t) (behind (reversedTable q)) (behind q) (behind-query rest)
+        ∙ by-front (treeChecks t) (behind (reversedTable q)) (behind q) (tree-numbered t) (λ z. behind-query rest)
         ∙ sym (ap verdict (by-tree q))
 
     -- what is accepted has an accepted tree
@@ -177,8 +164,8 @@ module _ (q : List ℕ) (columns room : ℕ) (ok : verdict (reverseChecks q colu
         ∙ leave-same (imageVerdict t q columns nodes from to) (imageBytes t (reversedTable q) nodes back from) (imageBytes t q nodes (not back) from) to
         (λ h. reversed-image t (tree-sound h) q nodes back from)
 
-  -- for the reader: forwards over the reversed query is backwards over the query, and the reverse, for everything that a call may be
-  -- lent: reply, count and buffer
+  -- for the reader: with that number of variables, forwards over the reversed query is backwards over the query, and the reverse, whatever
+  -- else the calls are lent: reply, count and buffer
   pub reversed-outcome : (t : List ℕ) (party : ℕ) (nodes : List ℕ) (back : Bool) (from to : List ℕ)
       → seenImage t party (reversedTable q) columns nodes back from to ≡ seenImage t party q columns nodes (not back) from to
   unfolding seenImage overSeen

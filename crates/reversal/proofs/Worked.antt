@@ -26,7 +26,7 @@ pub worked-compose : tableOf (reversed (compose (step 1 2) (step 3 3)))
 unfolding reversed converse encode pathTerm size
 worked-compose = refl
 
--- child::2[child::3] becomes self::node()[child::3]/(self::2/parent::node()): the node test is copied, not reversed
+-- child::2[child::3] becomes self::node()[child::3]/(self::2/parent::node()): the node expression is copied, not reversed
 pub worked-filter : tableOf (reversed (filter (step 1 2) (exists (step 1 3))))
     ≡ entry4 0 0 0 65534
     ++ (entry4 0 1 0 3

@@ -1,15 +1,18 @@
 -- The reversed query (document 02, §10), kind by kind: its pairs are the query's pairs, swapped (proofs/Swapped.antt: reversed-pairs).
 use Prim.Native.Nat.{ℕ}
-use mathlib.Core.List.{[], _∷_}
+use mathlib.Core.List.{List, [], _∷_}
 use lib.ListN.{getD}
 use Rattle.model.specs.Syntax.{Path, NodeExpr}
 use Rattle.model.specs.Syntax.Path.{step, compose, union, intersect, except, filter, variable, fromRoot, closure}
 use Rattle.model.specs.Syntax.NodeExpr.{exists, negate, is}
 
--- the converse of an axis by its code (document 01: each odd one beside its converse, self its own); what stands for a code that is no
--- axis is of no account, since refusal 11 turns it away
+-- the converses of the axes by their codes (document 01: each odd one beside its converse, self its own)
+abbrev pub converses : List ℕ
+converses = 0 ∷ 2 ∷ 1 ∷ 4 ∷ 3 ∷ 6 ∷ 5 ∷ 8 ∷ 7 ∷ 10 ∷ 9 ∷ 12 ∷ 11 ∷ []
+
+-- the converse of an axis; for a code that is none 13, which is none either
 unfoldable pub converse : ℕ → ℕ
-converse a = getD (0 ∷ 2 ∷ 1 ∷ 4 ∷ 3 ∷ 6 ∷ 5 ∷ 8 ∷ 7 ∷ 10 ∷ 9 ∷ 12 ∷ 11 ∷ []) a 13
+converse a = getD converses a 13
 
 -- a step along an axis to any node: axis::node()
 abbrev pub toNode : ℕ → Path

@@ -1,16 +1,16 @@
--- The service as a total function.
+-- The service that turns a query round (document 02, §10), as a total function of all that it is lent.
 use Prim.Native.Nat.{ℕ, _*_}
-use mathlib.Core.Bool.{cond}
 use mathlib.Core.List.{List, _∷_, _++_}
 use lib.ListN.{length}
-use lib.Dec.{ltb, eqb}
+use lib.Dec.{ltb}
 use Rattle.model.specs.declared.Reply.{Reply}
 use Rattle.model.specs.declared.MadeReply.{MadeReply}
 use Rattle.model.specs.Syntax.{Path}
 use Rattle.model.specs.QueryTable.{pathAt, lastOf}
 use Rattle.model.specs.Encoding.{pathTerm, size, tableOf}
-use Rattle.model.specs.Refusals.{Check, refuse, making, verdict, written}
+use Rattle.model.specs.Refusals.{Check, refuse, verdict}
 use Rattle.model.specs.Checks.{queryChecks, roomChecks}
+use Rattle.model.specs.Services.{leaving}
 use Rattle.reversal.specs.Reversed.{reversed}
 
 -- the query of a table, reversed
@@ -36,11 +36,6 @@ reverseChecks q columns room = queryChecks q 0 columns ++ sizeChecks (reversedSi
 -- the verdict on a query, its number of variables and the buffer
 abbrev pub reverseVerdict : List ℕ → ℕ → List ℕ → Reply
 reverseVerdict q columns out = verdict (reverseChecks q columns (length out))
-
--- what a call with a verdict leaves that makes a table: the verdict with how many numbers the table has, 0 at a refusal; and the buffer
--- with the table at its front, or as it was
-abbrev pub leaving : Reply → List ℕ → List ℕ → MadeReply × List ℕ
-leaving v table out = (making v (cond (eqb (v .number) 0) (length table) 0), written v table out)
 
 -- what the service leaves
 unfoldable pub reversal : List ℕ → ℕ → List ℕ → MadeReply × List ℕ

@@ -17,26 +17,14 @@ struct Call {
     place: usize,
 }
 
-// A reply that no service gives.
-fn no_reply() -> model::MadeReply {
-    model::MadeReply {
-        number: 65535,
-        place: 65535,
-        count: 65535,
-    }
-}
-
-// Lends the front of the buffer.
-fn lend(query: &[u16], c: Call, to: &mut [u16]) -> model::MadeReply {
-    let room = c.room;
-    if to.len() < room {
-        return no_reply();
-    }
-    reversal::reverse(query, c.columns, &mut to[0..room])
-}
-
-// A call, with the table that is due at the buffer's front if the call is accepted; the rest of the buffer is due to be as it was.
+// A call, with the table that is due at the buffer's front if the call is accepted; the rest of the buffer is due to be as it was. A
+// room beyond the buffer fails.
 fn compare(tally: &mut tally::Tally, c: Call, query: &table::Table, table: &table::Table) {
+    let room = c.room;
+    if 1024 < room {
+        tally::expect(tally, false);
+        return;
+    }
     let mut to = [PATTERN; 1024];
     let mut due = [PATTERN; 1024];
     let mut count = 0;
@@ -44,7 +32,7 @@ fn compare(tally: &mut tally::Tally, c: Call, query: &table::Table, table: &tabl
         table::copy_rows(table::numbers(table), &mut due);
         count = table::length(table);
     }
-    let got = lend(table::numbers(query), c, &mut to);
+    let got = reversal::reverse(table::numbers(query), c.columns, &mut to[0..room]);
     let reply = model::Reply {
         number: got.number,
         place: got.place,

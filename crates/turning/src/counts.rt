@@ -3,7 +3,8 @@ use harness::table;
 use harness::tally;
 use reference::evaluator;
 
-pub type Counts = [u64; 9];
+// A tally of its own, with the sums below.
+pub type Counts = tally::Tally;
 
 // How many queries can be reversed within 64 entries and how many cannot; and how many of these come to 64 entries and to 65.
 const WITHIN: usize = 0;
@@ -27,27 +28,10 @@ const KINDS: usize = 7;
 
 const AXES: usize = 8;
 
-fn add_if(counts: &mut Counts, at: usize, holds: bool) {
-    if at < 9 {
-        let sum = std::num::wrapping_add_u64(counts[at], holds as u64);
-        counts[at] = sum;
-    }
-}
-
-// Number k, below 15, was met.
-fn meet(counts: &mut Counts, at: usize, k: usize) {
-    if at < 9 {
-        if k < 15 {
-            let bits = counts[at] | (1 << k);
-            counts[at] = bits;
-        }
-    }
-}
-
 fn meet_entry(counts: &mut Counts, f: model::Entry) {
-    meet(counts, KINDS, f.kind);
+    tally::meet(counts, KINDS, f.kind);
     if f.kind == 0 {
-        meet(counts, AXES, f.left);
+        tally::meet(counts, AXES, f.left);
     }
 }
 
@@ -62,36 +46,34 @@ fn meet_entries(counts: &mut Counts, query: &[u16]) {
 
 // A query whose reversed query has so many entries.
 pub fn count_query(counts: &mut Counts, query: &table::Table, entries: usize) {
-    add_if(counts, LARGEST, entries == 64);
-    add_if(counts, NEXT, entries == 65);
+    tally::add(counts, LARGEST, (entries == 64) as u64);
+    tally::add(counts, NEXT, (entries == 65) as u64);
     if 64 < entries {
-        add_if(counts, BEYOND, true);
+        tally::add(counts, BEYOND, 1);
         return;
     }
-    add_if(counts, WITHIN, true);
+    tally::add(counts, WITHIN, 1);
     meet_entries(counts, table::numbers(query));
 }
 
 // One that can be reversed, whose reversed query can be reversed if it is so.
 pub fn count_twice(counts: &mut Counts, holds: bool) {
-    add_if(counts, TWICE, holds);
+    tally::add(counts, TWICE, holds as u64);
 }
 
 // An image of so many nodes among n.
 pub fn count_image(counts: &mut Counts, found: usize, n: usize) {
-    add_if(counts, IMAGES, true);
-    add_if(counts, MIXED, (0 < found) & (found < n));
+    tally::add(counts, IMAGES, 1);
+    tally::add(counts, MIXED, ((0 < found) & (found < n)) as u64);
 }
 
 fn sum_at(counts: &Counts, at: usize) -> usize {
-    if at < 9 {
-        return counts[at] as usize;
-    }
-    0
+    table::word_at(counts, at) as usize
 }
 
-// No fewer than one of so many queries were reversed and no fewer than one of so many were not, of every kind and with every axis, and
-// with the most entries that there may be and one more; and no fewer than one of so many images had some nodes and not all.
+// No fewer than one of so many queries were reversed, as many reversed twice, and as many not reversed; some came to the most entries
+// that there may be, and some to one more; those reversed had every kind and every axis; and no fewer than one of so many images had some
+// nodes and not all.
 pub fn expect_all(tally: &mut tally::Tally, counts: &Counts, of: usize, of_images: usize) {
     let queries = std::num::wrapping_add_usize(sum_at(counts, WITHIN), sum_at(counts, BEYOND));
     tally::expect(tally, queries <= table::times(of, sum_at(counts, WITHIN)));

@@ -12,8 +12,8 @@ use reference::random;
 use reference::reversing;
 use reference::shapes;
 
-// What the letter of a line of deep queries is.
-const JOINED: u8 = b'j';
+// The letter of a line of deep queries.
+pub const JOINED: u8 = b'j';
 
 // Makes the tree and the query that a line asks for, and answers how many variables the query may use.
 fn make(

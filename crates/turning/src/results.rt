@@ -30,39 +30,14 @@ fn serve(
     parties::forwards(t, party, query, columns, nodes, set, to)
 }
 
-// A reply that no service gives.
-fn no_reply() -> model::ImageReply {
-    model::ImageReply {
-        number: 65535,
-        place: 65535,
-        count: 65535,
-    }
-}
-
-// Lends the front of the set.
-fn lend(
-    back: bool,
-    shared: &shared::Shared,
-    query: &[u16],
-    nodes: &[u16],
-    set: &[u8],
-    n: usize,
-    to: &mut [u8],
-) -> model::ImageReply {
-    if set.len() < n {
-        return no_reply();
-    }
-    serve(back, shared, query, nodes, &set[0..n], to)
-}
-
-// A set of n nodes, and its image each way.
+// How many nodes there are, and how many the image of a set has each way.
 struct Found {
     n: usize,
     ahead: usize,
     back: usize,
 }
 
-// The image of a set by the engine, with the one that is due and its count.
+// The image of a set's first n bytes by the engine, with the one that is due and its count. A set of fewer fails.
 fn compare(
     tally: &mut tally::Tally,
     back: bool,
@@ -70,14 +45,18 @@ fn compare(
     query: &table::Table,
     nodes: &table::Table,
     n: usize,
-    set: &table::Set,
+    set: &[u8],
     due: &table::Set,
     count: usize,
 ) {
+    if set.len() < n {
+        tally::expect(tally, false);
+        return;
+    }
     let mut to = [PATTERN; 512];
     let q = table::numbers(query);
     let k = table::numbers(nodes);
-    let got = lend(back, shared, q, k, set, n, &mut to);
+    let got = serve(back, shared, q, k, &set[0..n], &mut to);
     let reply = model::Reply {
         number: got.number,
         place: got.place,

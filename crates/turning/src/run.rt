@@ -45,7 +45,7 @@ fn run_check(tally: &mut tally::Tally, counts: &mut counts::Counts, line: &line:
         results::run(tally, line);
         return;
     }
-    if (letter == b'q') | (letter == b'j') {
+    if (letter == b'q') | (letter == queries::JOINED) {
         run_random(tally, counts, line, letter);
         return;
     }
@@ -79,7 +79,7 @@ fn run_line(
 
 pub fn run_all(text: &[u8]) {
     let mut tally = [0u64; 71];
-    let mut counts = [0u64; 9];
+    let mut counts = [0u64; 71];
     let mut at = 0;
     while at < text.len() {
         let next = run_line(&mut tally, &mut counts, text, at);

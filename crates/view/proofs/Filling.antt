@@ -14,13 +14,13 @@ use borrow.Author.Tests.{ltb-false, eq-eqb, ne-eqb}
 use Rattle.model.specs.declared.Reply.{Reply}
 use Rattle.model.specs.declared.MadeReply.{MadeReply}
 use Rattle.model.specs.Sets.{bit}
-use Rattle.model.specs.Refusals.{making, verdict, written}
+use Rattle.model.specs.Refusals.{making, verdict}
 use Rattle.model.specs.Checks.{treeChecks, roomChecks}
-use Rattle.model.specs.Services.{Leaves}
+use Rattle.model.specs.Services.{Leaves, leaving}
 use Rattle.model.specs.Parties.{sharedTree, owner, sharedChecks, sharedVerdict, sees, rank, newRow, rowsOf, seenTable}
 use Rattle.model.specs.Accepted.{Ordered}
 use Rattle.model.proofs.Booleans.{Seen, yes!, no!, seen}
-use Rattle.model.proofs.Refusals.{Passes, numbered, accepted, all-pass, written-not, written-over}
+use Rattle.model.proofs.Refusals.{Passes, numbered, accepted, all-pass, leaves-none, leaves-table}
 use Rattle.model.proofs.Parties.{sees-step, shared-numbered, shared-ordered, root-seen, parent-seen, shared-passes, leaves-refused, leaves-seen}
 use Rattle.view.specs.View.{AcceptedTable, Filled, Looked, roomFor, seenTree}
 use Rattle.view.specs.declared.Sight.{Sight}
@@ -220,23 +220,21 @@ module _ (t : List ℕ) (party : ℕ) (own table : List ℕ) (s : Sight) (h : Lo
   -- table or party are refused
   pub seen-refused : (r : MadeReply) → r ≡ making (s .reply) 0 → (s .reply .number ≡ 0 → ⊥) → Leaves (seenTree t party table) r table
   unfolding seenTree
-  seen-refused r e z = leaves-refused t party table (λ v. making v 0) (λ u. (making (roomFor u table) (cond (eqb (roomFor u table .number) 0) (length u) 0), written (roomFor u table) u table)) (s .reply) (h .reply) r e z
+  seen-refused r e z = leaves-refused t party table (λ v. making v 0) (λ u. leaving (roomFor u table) u table) (s .reply) (h .reply) r e z
 
   module _ (z : s .reply .number ≡ 0) (w : Reply) (p : w ≡ verdict (roomChecks (length table) (s .count))) where
     due : w ≡ roomFor (seenTable t party) table
     due = p ∙ ap (λ (k : ℕ). verdict (roomChecks (length table) k)) (h .long z)
 
     over : (r : MadeReply) (after : List ℕ)
-        → Leaves (making (roomFor (seenTable t party) table) (cond (eqb (roomFor (seenTable t party) table .number) 0) (length (seenTable t party)) 0), written (roomFor (seenTable t party) table) (seenTable t party) table) r after
+        → Leaves (leaving (roomFor (seenTable t party) table) (seenTable t party) table) r after
         → Leaves (seenTree t party table) r after
     unfolding seenTree
-    over r after l = leaves-seen t party table (λ v. making v 0) (λ u. (making (roomFor u table) (cond (eqb (roomFor u table .number) 0) (length u) 0), written (roomFor u table) u table)) (s .reply) (h .reply) (seenTable t party) after r l refl z
+    over r after l = leaves-seen t party table (λ v. making v 0) (λ u. leaving (roomFor u table) u table) (s .reply) (h .reply) (seenTable t party) after r l refl z
 
     -- the buffer has too little room
     pub seen-short : (r : MadeReply) → r ≡ making w 0 → (w .number ≡ 0 → ⊥) → Leaves (seenTree t party table) r table
-    seen-short r e y =
-        over r table
-        (e ∙ rw (← due, ne-eqb (w .number) 0 y), written-not w (roomFor (seenTable t party) table) (seenTable t party) table due y)
+    seen-short r e y = over r table (leaves-none r w (roomFor (seenTable t party) table) due (seenTable t party) table e y)
 
     module _ (y : w .number ≡ 0) where
       pub seen-room : s .count ≤ length table
@@ -244,7 +242,5 @@ module _ (t : List ℕ) (party : ℕ) (own table : List ℕ) (s : Sight) (h : Lo
 
       pub seen-made : (r : MadeReply) (after : List ℕ) → r ≡ making w (s .count) → after ≡ take (s .count) own ++ drop (s .count) table → Leaves (seenTree t party table) r after
       seen-made r after e f =
-          over r after (
-            e ∙ rw (← due, eq-eqb (w .number) 0 y, h .long z),
-            written-over w (roomFor (seenTable t party) table) (seenTable t party) table after (s .count) (f ∙ rw (h .front z)) due y (sym (h .long z)),
-          )
+          over r after
+          (leaves-table r w (roomFor (seenTable t party) table) due (seenTable t party) table (s .count) after e (f ∙ rw (h .front z)) y (sym (h .long z)))

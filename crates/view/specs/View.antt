@@ -1,14 +1,13 @@
 -- A look at a shared table, and the service that makes the tree that a party sees (document 02, §8).
 use Prim.Native.Nat.{ℕ, _*_, _≤_}
 use mathlib.Core.Path.{_≡_}
-use mathlib.Core.Bool.{cond}
 use mathlib.Core.List.{List}
-use lib.Dec.{eqb}
 use lib.ListN.{length, take}
 use Rattle.model.specs.declared.Reply.{Reply}
 use Rattle.model.specs.declared.MadeReply.{MadeReply}
-use Rattle.model.specs.Refusals.{making, verdict, written}
+use Rattle.model.specs.Refusals.{making, verdict}
 use Rattle.model.specs.Checks.{roomChecks}
+use Rattle.model.specs.Services.{leaving}
 use Rattle.model.specs.Parties.{sharedChecks, sharedVerdict, seenTable, overSeen}
 use Rattle.model.specs.Accepted.{AcceptedTree}
 use Rattle.view.specs.declared.Sight.{Sight}
@@ -40,6 +39,4 @@ roomFor u table = verdict (roomChecks (length table) (length u))
 -- what the service leaves: the verdict on table, party and room, how many numbers the tree has, 0 at a refusal, and the tree at the
 -- front of the buffer
 unfoldable pub seenTree : List ℕ → ℕ → List ℕ → MadeReply × List ℕ
-seenTree t party table =
-    overSeen t party (λ v. (making v 0, table))
-    (λ u. (making (roomFor u table) (cond (eqb (roomFor u table .number) 0) (length u) 0), written (roomFor u table) u table))
+seenTree t party table = overSeen t party (λ v. (making v 0, table)) (λ u. leaving (roomFor u table) u table)

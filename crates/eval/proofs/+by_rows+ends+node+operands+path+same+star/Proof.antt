@@ -14,7 +14,8 @@ use Rattle.model.specs.Results.{related}
 use Rattle.model.proofs.Bytes.{fill-store, fill-done}
 use Rattle.model.proofs.Counts.{ones-bytes}
 use Rattle.eval.specs.Evaluation.{passing, passed, reached}
-use Rattle.eval.proofs.Calls.{kind-at, known-path, known-expr, either-operand, path-on-left, root-on-left, some-on-left, star-on-left, same-on-both, path-on-right, expr-on-left, filter-on-right, expr-on-right, variable-named, is-named, left-path, right-path, left-expr, right-expr, variable-within, variable-node, variable-small, axis-known}
+use Rattle.model.proofs.KindTests.{path-on-left, path-on-right}
+use Rattle.eval.proofs.Calls.{kind-at, known-path, known-expr, either-operand, root-on-left, some-on-left, star-on-left, same-on-both, expr-on-left, filter-on-right, expr-on-right, variable-named, is-named, left-path, right-path, left-expr, right-expr, variable-within, variable-node, variable-small, axis-known}
 use Rattle.eval.proofs.Entries.{did-step, did-compose, did-filter, did-filter-back, part, rows-start, rows-skip, rows-more, rows-end, row-below, rows-count, did-operands, did-union, variable-one, did-variable, did-root, did-ending, did-exists, did-negate, did-both, did-either, did-is, did-star, same-hit, no-nodes}
 use Rattle.eval.proofs.Growing.{Growing, missing, start-within, more, fewer, done}
 use Rattle.eval.proofs.by_rows.Reads as by-rows

@@ -8,7 +8,8 @@ use lib.Dec.{ltb}
 use borrow.Author.Needs.{needs}
 use borrow.Fn.Kinds.{In}
 use borrow.Fn.PlainCycle.{Measures, is, falls, and}
-use Rattle.eval.proofs.Calls.{kind-at, known-path, known-expr, path-on-left, path-on-right, root-on-left, some-on-left, star-on-left, expr-on-left, expr-on-right, filter-on-right, variable-named, is-named, variable-within, variable-node, variable-small, axis-known}
+use Rattle.model.proofs.KindTests.{path-on-left, path-on-right}
+use Rattle.eval.proofs.Calls.{kind-at, known-path, known-expr, root-on-left, some-on-left, star-on-left, expr-on-left, expr-on-right, filter-on-right, variable-named, is-named, variable-within, variable-node, variable-small, axis-known}
 use Rattle.relations.proofs.Algebra.{leaves, leaves-on, leaves-none, becomes-on}
 use Rattle.relations.proofs.Entries.{did-step, did-compose, did-filter, did-variable, did-root, did-closure, joined-path, did-tables, did-combine, applied-step, applied-compose, applied-filter, applied-variable, applied-root, did-product, did-exists, did-same, did-negate, did-both, did-either, did-is, did-keep}
 use Rattle.relations.proofs.Calls.{small-tree, some-node, ask-same, ask-left, ask-right, ask-left-expr, ask-right-expr, left-index, right-index, spare-kind, not-whole, ask-spare, joins-path, joins-same, has-left, has-right, combining, ask-first, waits, ask-second, held-first, straight-left, straight-right, four, passed-four}
