@@ -11,6 +11,7 @@ use borrow.Author.Tests.{ltb-true, ltb-false, lt-ltb}
 use Rattle.model.proofs.Booleans.{Seen, yes!, no!, seen}
 use Rattle.model.specs.Encoding.{Term, size, entry4, encode, columns}
 use Rattle.entries.specs.Postfix.{Item, Made, postfix, put, entered, needing, operand, append, appendAll, made, blank, Sound, Wrote}
+use Rattle.entries.specs.Size.{counted}
 use Rattle.entries.proofs.Drafts.{append-sound}
 
 pub append-all-append : (a b : List Item) (m : Made) → appendAll (a ++ b) m ≡ appendAll b (appendAll a m)
@@ -198,3 +199,14 @@ length-postfix (Term.binary k a b) =
 -- for the reader: a table that would have more entries is known by their count
 pub too-many : (t : Term) (m : Made) → Sound m → 64 < m .draft .entries + size t → appendAll (postfix t) m .draft .entries ≡ 65
 too-many t m w h = omega (arith, append-all-entries (postfix t) m w, length-postfix t)
+
+module _ (table operands : List ℕ) (room : length table ≡ 256) (places : length operands ≡ 64) (t : Term) where
+  -- for the reader: from nothing on, a term comes to its size in entries, more than 64 counted as 65
+  pub entries-counted : appendAll (postfix t) (made blank table operands) .draft .entries ≡ counted (size t)
+  entries-counted = go (seen (ltb 64 (size t)))
+    where
+      go : Seen (ltb 64 (size t)) → appendAll (postfix t) (made blank table operands) .draft .entries ≡ counted (size t)
+      go (yes! h) =
+          let l = ltb-true 64 (size t) h in
+          rw h (too-many t (made blank table operands) (blank-sound table operands room places) (omega arith))
+      go (no! h) = rw h (built table operands room places t (ltb-false 64 (size t) h) .0)

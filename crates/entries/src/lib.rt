@@ -2,12 +2,14 @@
 ghost use mathlib.Core.Path.{_≡_};
 ghost use mathlib.Core.Bool.{cond};
 ghost use mathlib.Core.List.{[], _∷_};
-ghost use Prim.Native.Nat.{_+_, _-_, _*_, _<_, suc, max};
+ghost use Prim.Native.Nat.{_+_, _-_, _*_, _≤_, _<_, suc, max};
 ghost use lib.ListN.{length};
 ghost use Rattle.model.specs.Kinds.{namesVariable};
 ghost use Rattle.model.specs.Encoding.{entry4};
+ghost use Rattle.model.specs.Refusals.{verdict};
 ghost use Rattle.entries.specs.Postfix.Item.{leaf, unary, binary};
 ghost use Rattle.entries.specs.Postfix.{put, entered, made, past, blank, Sound, Wrote};
+ghost use Rattle.entries.specs.Size.{sizeChecks};
 
 // How far a table in the making has come: its entries, more than 64 counted as 65; the numbers on its stack, each of an entry that
 // no entry names yet; and how many variables it needs.
@@ -171,4 +173,20 @@ pub fn put_binary(table: &mut [u16], operands: &mut [u16], d: Draft, kind: u16) 
         return enter(table, operands, d, at, kind, l, r, 0);
     }
     overfull(d)
+}
+
+// The verdict on a query that is made: 26, 20.
+pub fn check_size(entries: usize, room: usize) -> model::Reply
+    requires { ⌜ entries ≤ 65 ⌝ }
+    ensures { λ r. ⌜ r ≡ verdict (sizeChecks entries room) ⌝ }
+{
+    let many = 64 < entries;
+    if many {
+        return model::reply_at(26, 0);
+    }
+    let short = room < 4 * entries;
+    if short {
+        return model::reply_at(20, 0);
+    }
+    model::reply_at(0, 0)
 }

@@ -8,7 +8,7 @@ use mathlib.Core.List.{List, [], _∷_, _++_, append-nil}
 use lib.ListN.{length, take, drop}
 use lib.Seq.{length-take-le}
 use lib.Dec.{ltb, eqb}
-use borrow.Author.Tests.{ltb-true, ltb-false, le-ltb}
+use borrow.Author.Tests.{ltb-false, le-ltb}
 use Rattle.model.proofs.Booleans.{Seen, yes!, no!, seen, no-yes}
 use Rattle.model.specs.Encoding.{Term, size, pathTerm, columns}
 use Rattle.grammar.specs.Grammar.{Expr}
@@ -30,7 +30,7 @@ use Rattle.machine.proofs.Machine.{gapsOf, focusOf, Goes}
 use Rattle.machine.proofs.Loop.{At, at-after, turn-here, halt-fits, halt-place, halt-unread, go-some, go-within, Went, at-go, end-place, end-read, Accepted, end-accepted}
 use Rattle.entries.specs.declared.Draft.{Draft}
 use Rattle.entries.specs.Postfix.{Item, Made, Sound, Wrote, postfix, appendAll, made, blank}
-use Rattle.entries.proofs.Postfix.{wrote-none, wrote-on, blank-sound, built, too-many}
+use Rattle.entries.proofs.Postfix.{wrote-none, wrote-on, built, entries-counted}
 use Rattle.emission.specs.Items.{wordItems, endItems}
 use Rattle.emission.proofs.Emission.{OnAxis, AxisOn, axis-on, Tagged, Emits, written, emits, ends, written-start}
 use Rattle.reader.specs.declared.Progress.{Progress}
@@ -125,7 +125,7 @@ module _ (text house site : List ℕ) where
             stops = s ∙ halt-place text stack (p .depth) (p .focus) (p .at) (w .place) (Halt n) n h e refl;
             stopped = let l = halt-fits text stack (p .depth) (p .focus) (p .at) (w .place) (Halt n) n h e refl in omega arith;
             placed = omega arith;
-            counted = let c : r .draft .entries ≡ 0 = ap (λ (d : Draft). d .entries) b in omega arith;
+            bounded = let c : r .draft .entries ≡ 0 = ap (λ (d : Draft). d .entries) b in omega arith;
             unknowns = λ y. no-yes (sym f) y;
             places = λ y. no-yes (sym f) y;
             entries = λ y. no-yes (sym f) y;
@@ -254,16 +254,6 @@ module _ (text house site : List ℕ) where
               wrote-on (written tag here) (endItems (p .focus) (stackOf stack (p .depth)) (p .axis) (soughtAt text house site p true .tag)) (made blank table₀ operands₀) (made (p .draft) table operands) (made (r .draft) table′ operands′) (w .wrote) (f .wrote) .whole
               ∙ ap (λ (is : List Item). appendAll is (made blank table₀ operands₀)) all-items
 
-          entries-made : Seen (ltb 64 (size term)) → r .draft .entries ≡ cond (ltb 64 (size term)) 65 (size term)
-          entries-made (yes! h) =
-              ap (λ (x : Made). x .draft .entries) all-made
-              ∙ too-many term (made blank table₀ operands₀) (blank-sound table₀ operands₀ (sound .0) (sound .1)) (let l = ltb-true 64 (size term) h in omega arith)
-              ∙ sym (ap (λ (b : Bool). cond b 65 (size term)) h)
-          entries-made (no! h) =
-              ap (λ (x : Made). x .draft .entries) all-made
-              ∙ built table₀ operands₀ (sound .0) (sound .1) term (ltb-false 64 (size term) h) .0
-              ∙ sym (ap (λ (b : Bool). cond b 65 (size term)) h)
-
         pub kept-end : ReadsTo text house site r table′
         kept-end =
             record {
@@ -275,10 +265,10 @@ module _ (text house site : List ℕ) where
                   let e = f .places in
                   let l = place-most house site text p true (w .placed) (w .started) in
                   omega arith;
-              counted = f .wrote .sound .counted;
+              bounded = f .wrote .sound .counted;
               unknowns = λ y. f .unknowns ∙ ended .unknown ∙ ap (anyUnknown house site) (all-names y);
               places = λ y. f .places ∙ ended .place ∙ ap (unknownPlace house site) (all-names y);
-              entries = λ y. entries-made y (seen (ltb 64 (size (term y))));
+              entries = λ y. ap (λ (x : Made). x .draft .entries) (all-made y) ∙ entries-counted table₀ operands₀ (sound .0) (sound .1) (term y);
               columns = λ y h. ap (λ (x : Made). x .draft .columns) (all-made y) ∙ built table₀ operands₀ (sound .0) (sound .1) (term y) h .1;
               front = λ y h. ap (λ (x : Made). take (4 * size (term y)) (x .table)) (all-made y) ∙ built table₀ operands₀ (sound .0) (sound .1) (term y) h .2;
             }

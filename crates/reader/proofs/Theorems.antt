@@ -1,12 +1,10 @@
 -- What an accepted reading is worth.
-use Prim.Native.Nat.{ℕ, _*_, _≤_}
+use Prim.Native.Nat.{ℕ, _≤_}
 use native.Mathlib.Omega.{arith}
 use mathlib.Core.Path.{_≡_, refl, ap, _∙_}
 use mathlib.Core.Bool.{Bool, true, not}
-use mathlib.Core.List.{List, [], _∷_, _++_}
+use mathlib.Core.List.{List, _∷_, _++_}
 use lib.ListN.{length}
-use lib.Dec.{ltb}
-use borrow.Author.Tests.{ltb-false}
 use Rattle.model.specs.Tree.{treeOf}
 use Rattle.model.specs.Syntax.{Path}
 use Rattle.model.specs.QueryTable.{lastOf}
@@ -17,6 +15,8 @@ use Rattle.model.specs.Checks.{queryChecks}
 use Rattle.model.specs.Before.{inputsBefore, NoDocument}
 use Rattle.model.proofs.Refusals.{numbered, passed, Passes-front}
 use Rattle.model.proofs.Unchanged.{starred, starred-size, starred-columns, table-as-before}
+use Rattle.entries.specs.Size.{sizeChecks}
+use Rattle.entries.proofs.Size.{size-passes}
 use Rattle.names.specs.declared.Tag.{Tag}
 use Rattle.names.specs.declared.Tag.the-variants.{Known, Unknown}
 use Rattle.names.specs.Names.{nameTableChecks}
@@ -36,22 +36,15 @@ module _ (text house site : List ℕ) (room : ℕ) where
   abbrev unknownCheck : Check
   unknownCheck = refuseHere 25 (unknownPlace house site (namesIn 0 (typed text))) (anyUnknown house site (namesIn 0 (typed text)))
 
-  abbrev manyCheck : Check
-  manyCheck = refuse 26 (ltb 64 (entriesIn text house site))
-
-  abbrev roomCheck : Check
-  roomCheck = refuse 20 (ltb room (4 * entriesIn text house site))
-
   -- the text has a reading, and it has at most 64 entries
   passes : verdict (readChecks text house site room) .number ≡ 0 → (readable text ≡ true) × (entriesIn text house site ≤ 64)
   unfolding readChecks nameTableChecks numbered
   passes h =
       let a = Passes-front (nameTableChecks house site) (textChecks text ++ madeChecks text house site room) refl h .1 in
-      let b = passed (refuse 23 (badLength (length text))) (refuseHere 24 (stopsAt text) (not (readable text)) ∷ unknownCheck ∷ manyCheck ∷ roomCheck ∷ []) (λ q. omega arith) a in
-      let c = passed (refuseHere 24 (stopsAt text) (not (readable text))) (unknownCheck ∷ manyCheck ∷ roomCheck ∷ []) (λ q. omega arith) (b .1) in
-      let d = passed unknownCheck (manyCheck ∷ roomCheck ∷ []) (λ q. omega arith) (c .1) in
-      let e = passed manyCheck (roomCheck ∷ []) (λ q. omega arith) (d .1) in
-      (not-no (readable text) (c .0), ltb-false 64 (entriesIn text house site) (e .0))
+      let b = passed (refuse 23 (badLength (length text))) (refuseHere 24 (stopsAt text) (not (readable text)) ∷ unknownCheck ∷ sizeChecks (entriesIn text house site) room) (λ q. omega arith) a in
+      let c = passed (refuseHere 24 (stopsAt text) (not (readable text))) (unknownCheck ∷ sizeChecks (entriesIn text house site) room) (λ q. omega arith) (b .1) in
+      let d = passed unknownCheck (sizeChecks (entriesIn text house site) room) (λ q. omega arith) (c .1) in
+      (not-no (readable text) (c .0), size-passes (entriesIn text house site) room _ refl (d .1) .0)
 
   -- for every accepted call, the table that is written passes check_query with the number of variables that is told
   pub read-passes : verdict (readChecks text house site room) .number ≡ 0

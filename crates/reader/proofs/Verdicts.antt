@@ -3,7 +3,7 @@ use Prim.Native.Nat.{ℕ, _+_, _*_, _≤_, _<_}
 use native.Mathlib.Omega.{arith}
 use mathlib.Core.Path.{_≡_, refl, sym, ap, _∙_, subst}
 use mathlib.Core.Bool.{Bool, true, false, not, cond}
-use mathlib.Core.List.{List, [], _∷_, _++_}
+use mathlib.Core.List.{List, _∷_, _++_}
 use lib.ListN.{length, take, drop}
 use lib.Dec.{ltb, eqb}
 use borrow.Author.Tests.{eqb-true, ltb-false}
@@ -11,10 +11,12 @@ use Rattle.model.specs.declared.Reply.{Reply}
 use Rattle.model.specs.declared.ReadReply.{ReadReply}
 use Rattle.model.specs.Syntax.{Path}
 use Rattle.model.specs.Encoding.{size, pathTerm, tableOf, columnsOf}
-use Rattle.model.specs.Refusals.{Check, refuse, refuseHere, reply, verdict, written}
-use Rattle.model.proofs.Booleans.{no-yes, no-or}
+use Rattle.model.specs.Refusals.{Check, refuseHere, reply, verdict, written}
+use Rattle.model.proofs.Booleans.{no-or}
 use Rattle.model.proofs.Encoding.{length-encode}
-use Rattle.model.proofs.Refusals.{numbered, stop, pass, stop-all, pass-all, passed, written-not, written-over}
+use Rattle.model.proofs.Refusals.{Passes, numbered, accepted as all-passed, stop, pass, stop-all, pass-all, all-pass, none-refused, written-not, written-over}
+use Rattle.entries.specs.Size.{sizeChecks}
+use Rattle.entries.proofs.Size.{same-size, size-passes, counted-few}
 use Rattle.names.specs.Names.{nameTableChecks}
 use Rattle.grammar.specs.Grammar.{Expr, fits}
 use Rattle.grammar.specs.Automaton.{readable, stopsAt}
@@ -25,20 +27,6 @@ use Rattle.reader.specs.declared.Reading.{Reading}
 use Rattle.reader.specs.Read.{expression, typed, tagIn, queryOf, entriesIn, anyUnknown, unknownPlace, badLength, textChecks, madeChecks, readChecks, readReply, refusal, Leaves, TableLeaves, ReadLeaves}
 use Rattle.reader.specs.Turns.{ReadsTo, readingChecks}
 use Rattle.reader.proofs.Places.{not-no}
-
-pub all-pass : (r : Reading) (room : ℕ) (v : Reply) → v ≡ reply 0 0 → not (r .readable) ≡ false → r .unknown ≡ false → ltb 64 (r .draft .entries) ≡ false
-    → ltb room (4 * r .draft .entries) ≡ false → v ≡ verdict (readingChecks r room)
-unfolding verdict
-all-pass r room v e a b c d =
-    e ∙ go (not (r .readable)) (r .unknown) (ltb 64 (r .draft .entries)) (ltb room (4 * r .draft .entries)) a b c d
-  where
-    go : (a b c d : Bool) → a ≡ false → b ≡ false → c ≡ false → d ≡ false
-        → reply 0 0 ≡ cond a (reply 24 (r .stop)) (cond b (reply 25 (r .place)) (cond c (reply 26 0) (cond d (reply 20 0) (reply 0 0))))
-    go false false false false p q s t = refl
-    go true b c d p q s t = no-yes p refl
-    go false true c d p q s t = no-yes q refl
-    go false false true d p q s t = no-yes s refl
-    go false false false true p q s t = no-yes t refl
 
 module _ (text house site : List ℕ) where
   -- what is read of a readable text fits the grammar
@@ -62,31 +50,21 @@ module _ (text house site : List ℕ) where
     same-verdict =
         go (readable text) refl
       where
-        places : readable text ≡ true → (b : Bool) → anyUnknown house site (namesIn 0 (typed text)) ≡ b → (c : Bool) → ltb 64 (entriesIn text house site) ≡ c
-            → cond (r .unknown) (reply 25 (r .place)) (cond (ltb 64 (r .draft .entries)) (reply 26 0) (cond (ltb room (4 * r .draft .entries)) (reply 20 0) (reply 0 0)))
-            ≡ cond b (reply 25 (unknownPlace house site (namesIn 0 (typed text)))) (cond c (reply 26 0) (cond (ltb room (4 * entriesIn text house site)) (reply 20 0) (reply 0 0)))
-        places y b u c l =
-            ap (λ (v : Bool). cond v (reply 25 (r .place)) (cond (ltb 64 (r .draft .entries)) (reply 26 0) (cond (ltb room (4 * r .draft .entries)) (reply 20 0) (reply 0 0)))) (w .unknowns y ∙ u)
-            ∙ ap (λ (n : ℕ). cond b (reply 25 n) (cond (ltb 64 (r .draft .entries)) (reply 26 0) (cond (ltb room (4 * r .draft .entries)) (reply 20 0) (reply 0 0)))) (w .places y)
-            ∙ ap (λ (x : Reply). cond b (reply 25 (unknownPlace house site (namesIn 0 (typed text)))) x) (counts c l)
-          where
-            counts : (c : Bool) → ltb 64 (entriesIn text house site) ≡ c
-                → cond (ltb 64 (r .draft .entries)) (reply 26 0) (cond (ltb room (4 * r .draft .entries)) (reply 20 0) (reply 0 0))
-                ≡ cond c (reply 26 0) (cond (ltb room (4 * entriesIn text house site)) (reply 20 0) (reply 0 0))
-            counts true l = let e : r .draft .entries ≡ 65 = w .entries y ∙ ap (λ (v : Bool). cond v 65 (entriesIn text house site)) l in ap (λ (n : ℕ). cond (ltb 64 n) (reply 26 0) (cond (ltb room (4 * n)) (reply 20 0) (reply 0 0))) e
-            counts false l =
-                let e : r .draft .entries ≡ (entriesIn text house site) = w .entries y ∙ ap (λ (v : Bool). cond v 65 (entriesIn text house site)) l in
-                ap (λ (n : ℕ). cond (ltb 64 n) (reply 26 0) (cond (ltb room (4 * n)) (reply 20 0) (reply 0 0))) e
-                ∙ ap (λ (v : Bool). cond v (reply 26 0) (cond (ltb room (4 * entriesIn text house site)) (reply 20 0) (reply 0 0))) l
+        made-same : readable text ≡ true → verdict (refuseHere 25 (r .place) (r .unknown) ∷ sizeChecks (r .draft .entries) room) ≡ verdict (madeChecks text house site room)
+        made-same y =
+            ap (λ (b : Bool). verdict (refuseHere 25 (r .place) b ∷ sizeChecks (r .draft .entries) room)) (w .unknowns y)
+            ∙ ap (λ (n : ℕ). verdict (refuseHere 25 n (anyUnknown house site (namesIn 0 (typed text))) ∷ sizeChecks (r .draft .entries) room)) (w .places y)
+            ∙ ap (λ (x : Reply). cond (anyUnknown house site (namesIn 0 (typed text))) (reply 25 (unknownPlace house site (namesIn 0 (typed text)))) x)
+            (ap (λ (n : ℕ). verdict (sizeChecks n room)) (w .entries y) ∙ same-size (entriesIn text house site) room)
 
         go : (y : Bool) → readable text ≡ y → verdict (readingChecks r room) ≡ verdict due
         go false y =
-            ap (λ (v : Bool). cond (not v) (reply 24 (r .stop)) (verdict (refuseHere 25 (r .place) (r .unknown) ∷ refuse 26 (ltb 64 (r .draft .entries)) ∷ refuse 20 (ltb room (4 * r .draft .entries)) ∷ []))) (w .reads ∙ y)
+            ap (λ (v : Bool). cond (not v) (reply 24 (r .stop)) (verdict (refuseHere 25 (r .place) (r .unknown) ∷ sizeChecks (r .draft .entries) room))) (w .reads ∙ y)
             ∙ ap (reply 24) (w .stops)
             ∙ ap (λ (v : Bool). cond (not v) (reply 24 (stopsAt text)) (verdict (madeChecks text house site room))) (sym y)
         go true y =
-            ap (λ (v : Bool). cond (not v) (reply 24 (r .stop)) (verdict (refuseHere 25 (r .place) (r .unknown) ∷ refuse 26 (ltb 64 (r .draft .entries)) ∷ refuse 20 (ltb room (4 * r .draft .entries)) ∷ []))) (w .reads ∙ y)
-            ∙ places y (anyUnknown house site (namesIn 0 (typed text))) refl (ltb 64 (entriesIn text house site)) refl
+            ap (λ (v : Bool). cond (not v) (reply 24 (r .stop)) (verdict (refuseHere 25 (r .place) (r .unknown) ∷ sizeChecks (r .draft .entries) room))) (w .reads ∙ y)
+            ∙ made-same y
             ∙ ap (λ (v : Bool). cond (not v) (reply 24 (stopsAt text)) (verdict (madeChecks text house site room))) (sym y)
 
 abbrev accepted : ℕ → ℕ → ReadReply
@@ -115,32 +93,26 @@ module _ (text house site : List ℕ) (r : Reading) (table : List ℕ) (w : Read
 
   module _ (z : v .number ≡ 0) where
     -- what the checks have passed
-    checked : (not (r .readable) ≡ false) × (r .unknown ≡ false) × (ltb 64 (r .draft .entries) ≡ false) × (ltb (length buffer) (4 * r .draft .entries) ≡ false)
-    checked =
-        let n : verdict (readingChecks r (length buffer)) .number ≡ 0 = ap (λ (x : Reply). x .number) (sym e) ∙ z in
-        let a = passed (refuseHere 24 (r .stop) (not (r .readable))) (refuseHere 25 (r .place) (r .unknown) ∷ refuse 26 (ltb 64 (r .draft .entries)) ∷ refuse 20 (ltb (length buffer) (4 * r .draft .entries)) ∷ []) (λ q. omega arith) n in
-        let b = passed (refuseHere 25 (r .place) (r .unknown)) (refuse 26 (ltb 64 (r .draft .entries)) ∷ refuse 20 (ltb (length buffer) (4 * r .draft .entries)) ∷ []) (λ q. omega arith) (a .1) in
-        let c = passed (refuse 26 (ltb 64 (r .draft .entries))) (refuse 20 (ltb (length buffer) (4 * r .draft .entries)) ∷ []) (λ q. omega arith) (b .1) in
-        let d = passed (refuse 20 (ltb (length buffer) (4 * r .draft .entries))) [] (λ q. omega arith) (c .1) in
-        (a .0, b .0, c .0, d .0)
+    checked : Passes (readingChecks r (length buffer))
+    unfolding numbered
+    checked = all-passed (readingChecks r (length buffer)) refl (ap (λ (x : Reply). x .number) (sym e) ∙ z)
 
     is-readable : readable text ≡ true
+    unfolding Passes
     is-readable = sym (w .reads) ∙ not-no (r .readable) (checked .0)
 
+    both-fit : (r .draft .entries ≤ 64) × (4 * r .draft .entries ≤ length buffer)
+    unfolding Passes
+    both-fit = size-passes (r .draft .entries) (length buffer) _ refl (all-pass (sizeChecks (r .draft .entries) (length buffer)) (checked .1 .1))
+
     pub entries-fit : r .draft .entries ≤ 64
-    entries-fit = ltb-false 64 (r .draft .entries) (checked .2)
+    entries-fit = both-fit .0
 
     pub table-fits : 4 * r .draft .entries ≤ length buffer
-    table-fits = ltb-false (length buffer) (4 * r .draft .entries) (checked .3)
+    table-fits = both-fit .1
 
     few-entries : (entriesIn text house site ≤ 64) × (r .draft .entries ≡ entriesIn text house site)
-    few-entries = go (ltb 64 (entriesIn text house site)) refl
-      where
-        go : (b : Bool) → ltb 64 (entriesIn text house site) ≡ b → (entriesIn text house site ≤ 64) × (r .draft .entries ≡ entriesIn text house site)
-        go true l =
-            let q : r .draft .entries ≡ 65 = w .entries is-readable ∙ ap (λ (v : Bool). cond v 65 (entriesIn text house site)) l in
-            let f = entries-fit in absurd (omega arith)
-        go false l = (ltb-false 64 (entriesIn text house site) l, w .entries is-readable ∙ ap (λ (v : Bool). cond v 65 (entriesIn text house site)) l)
+    few-entries = counted-few (entriesIn text house site) (r .draft .entries) (w .entries is-readable) entries-fit
 
     pub columns-fit : r .draft .columns < 65536
     columns-fit =
@@ -154,7 +126,7 @@ module _ (text house site : List ℕ) (r : Reading) (table : List ℕ) (w : Read
     table-accepted after h =
         let d = due text house site r table w (length buffer) in
         let f : v ≡ verdict d = e ∙ same-verdict text house site r table w (length buffer) in
-        let y : v ≡ reply 0 0 = e ∙ sym (all-pass r (length buffer) (reply 0 0) refl (checked .0) (checked .1) (checked .2) (checked .3)) in
+        let y : v ≡ reply 0 0 = e ∙ none-refused (readingChecks r (length buffer)) checked in
         let n = few-entries .1 in (
           replied (r .draft .entries) (r .draft .columns) n (w .columns is-readable (few-entries .0)) (verdict d) (sym f ∙ y),
           written-over v (verdict d) (tableOf (queryOf text house site)) buffer after (4 * r .draft .entries)

@@ -16,6 +16,7 @@ use Rattle.grammar.specs.Online.Place.{between}
 use Rattle.grammar.specs.Automaton.{Outcome, outcomeOf, next, start, readable, stopsAt}
 use Rattle.grammar.specs.Automaton.Outcome.{accepted, refused}
 use Rattle.grammar.specs.Typed.{TypedName, pathOf, namesIn}
+use Rattle.entries.specs.Size.{sizeChecks}
 use Rattle.names.specs.Names.{nameTableChecks}
 use Rattle.names.specs.Tags.{tagOf, tagNumber, isKnown}
 
@@ -58,13 +59,11 @@ badLength n = eqb n 0 || ltb 1024 n
 abbrev pub textChecks : List ℕ → List Check
 textChecks text = refuse 23 (badLength (length text)) ∷ refuseHere 24 (stopsAt text) (not (readable text)) ∷ []
 
--- 25: a name that no tag has; 26: more than 64 entries; 20: the buffer has room for less than the table
+-- 25: a name that no tag has; then 26 and 20
 abbrev pub madeChecks : List ℕ → List ℕ → List ℕ → ℕ → List Check
 madeChecks text house site room =
     refuseHere 25 (unknownPlace house site (namesIn 0 (typed text))) (anyUnknown house site (namesIn 0 (typed text)))
-    ∷ refuse 26 (ltb 64 (entriesIn text house site))
-    ∷ refuse 20 (ltb room (4 * entriesIn text house site))
-    ∷ []
+    ∷ sizeChecks (entriesIn text house site) room
 
 -- 21, then 23 to 26, then 20
 unfoldable pub readChecks : List ℕ → List ℕ → List ℕ → ℕ → List Check

@@ -2,10 +2,10 @@
 use Prim.Native.Nat.{ℕ, _+_, _-_, _*_, _≤_, _<_}
 use mathlib.Core.Path.{_≡_}
 use mathlib.Core.Bool.{Bool, true, false, not, _&&_, _||_, cond}
-use mathlib.Core.List.{List, [], _∷_}
+use mathlib.Core.List.{List, _∷_}
 use lib.ListN.{length, take, drop, set}
 use lib.Dec.{ltb, eqb}
-use Rattle.model.specs.Refusals.{Check, refuse, refuseHere}
+use Rattle.model.specs.Refusals.{Check, refuseHere}
 use Rattle.model.specs.Encoding.{tableOf, columnsOf}
 use Rattle.grammar.specs.Automaton.{readable, stopsAt}
 use Rattle.grammar.specs.Typed.{namesIn}
@@ -15,6 +15,7 @@ use Rattle.machine.specs.declared.Turn.the-variants.{Go, Halt}
 use Rattle.machine.specs.Machine.{stackOf, turnOf, mayEnd}
 use Rattle.entries.specs.declared.Draft.{Draft}
 use Rattle.entries.specs.Postfix.{Wrote, made, blank}
+use Rattle.entries.specs.Size.{counted, sizeChecks}
 use Rattle.emission.specs.Items.{wordItems, endItems}
 use Rattle.names.specs.declared.Tag.{Tag}
 use Rattle.names.specs.Tags.{tagOf, tagNumber, isKnown}
@@ -102,11 +103,11 @@ pub record ReadsTo (text house site : List ℕ) (r : Reading) (table : List ℕ)
   pub stops : r .stop ≡ stopsAt text
   pub stopped : r .stop ≤ length text
   pub placed : r .place ≤ length text
-  pub counted : r .draft .entries ≤ 65
+  pub bounded : r .draft .entries ≤ 65
   -- the names, the number of entries, more than 64 counted as 65, the variables, and the table
   pub unknowns : readable text ≡ true → r .unknown ≡ anyUnknown house site (namesIn 0 (typed text))
   pub places : readable text ≡ true → r .place ≡ unknownPlace house site (namesIn 0 (typed text))
-  pub entries : readable text ≡ true → r .draft .entries ≡ cond (ltb 64 (entriesIn text house site)) 65 (entriesIn text house site)
+  pub entries : readable text ≡ true → r .draft .entries ≡ counted (entriesIn text house site)
   pub columns : readable text ≡ true → entriesIn text house site ≤ 64 → r .draft .columns ≡ columnsOf (queryOf text house site)
   pub front : readable text ≡ true → entriesIn text house site ≤ 64 → take (4 * entriesIn text house site) table ≡ tableOf (queryOf text house site)
 
@@ -115,6 +116,4 @@ abbrev pub readingChecks : Reading → ℕ → List Check
 readingChecks r room =
     refuseHere 24 (r .stop) (not (r .readable))
     ∷ refuseHere 25 (r .place) (r .unknown)
-    ∷ refuse 26 (ltb 64 (r .draft .entries))
-    ∷ refuse 20 (ltb room (4 * r .draft .entries))
-    ∷ []
+    ∷ sizeChecks (r .draft .entries) room

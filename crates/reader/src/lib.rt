@@ -310,15 +310,7 @@ fn check_reading(r: Reading, room: usize) -> model::Reply
         return model::reply_at(25, r.place);
     }
     let d = r.draft;
-    let many = 64 < d.entries;
-    if many {
-        return model::reply_at(26, 0);
-    }
-    let short = room < 4 * d.entries;
-    if short {
-        return model::reply_at(20, 0);
-    }
-    model::reply_at(0, 0)
+    entries::check_size(d.entries, room)
 }
 
 // The text is not 1 to 1,024 bytes long.

@@ -8,11 +8,11 @@ use mathlib.Core.Bool.{Bool, true, false, not, cond, _&&_, _||_}
 use mathlib.Core.List.{List, [], _∷_, _++_, append-assoc}
 use lib.ListN.{length, getD, take}
 use lib.Dec.{ltb, eqb}
-use borrow.Author.Tests.{not-true, not-false, eqb-true, ltb-true, ltb-false, lt-ltb}
+use borrow.Author.Tests.{not-true, not-false, eqb-true, ltb-true, lt-ltb}
 use Rattle.model.specs.declared.Entry.{Entry}
 use Rattle.model.specs.Syntax.{Path}
 use Rattle.model.specs.Syntax.Path.{step, variable}
-use Rattle.model.specs.Encoding.{Term, pathTerm, exprTerm, size, encode}
+use Rattle.model.specs.Encoding.{Term, pathTerm, exprTerm, size}
 use Rattle.model.specs.QueryTable.{entriesOf, kind, left, right, tag, entry, pathAt, exprAt}
 use Rattle.model.specs.Kinds.{isPath, leftPath, leftExpr, rightPath, rightExpr, hasLeft, hasRight, namesVariable}
 use Rattle.model.proofs.Booleans.{Seen, yes!, no!, seen, no-yes, both-yes, or-left, or-cases}
@@ -25,7 +25,7 @@ use Rattle.aside.proofs.Terms.{Form, form}
 use Rattle.aside.proofs.Terms.Form.{none!, one!, two! }
 use Rattle.entries.specs.declared.Draft.{Draft}
 use Rattle.entries.specs.Postfix.{Item, Made, postfix, appendAll, made, blank, Sound, Wrote}
-use Rattle.entries.proofs.Postfix.{wrote-on, blank-sound, built, too-many}
+use Rattle.entries.proofs.Postfix.{wrote-on, blank-sound, built, entries-counted}
 use Rattle.reversal.specs.Reversed.{converses, converse, selfAtRoot, reversed}
 use Rattle.reversal.specs.Building.{Reversible, Builds, BuildsPath, stepItems, rootItems, whereTerm, reversedAt, Makes}
 
@@ -345,19 +345,9 @@ module _ (b : Draft) (t o : List ℕ) (empty : b ≡ blank) (room : length t ≡
     whole : made d t′ o′ ≡ appendAll (postfix term) (made blank t o)
     whole = w .whole ∙ ap (λ (b : Draft). appendAll (postfix term) (made b t o)) empty
 
-    few : size term ≤ 64 → (d .entries ≡ size term) × (take (4 * size term) t′ ≡ encode 0 term)
-    few h =
-        let b = built t o room places term h in
-        (ap (λ (m : Made). m .draft .entries) whole ∙ b .0, ap (λ (m : Made). take (4 * size term) (m .table)) whole ∙ b .2)
-
-    counts : d .entries ≡ cond (ltb 64 (size term)) 65 (size term)
-    counts = go (seen (ltb 64 (size term)))
-      where
-        go : Seen (ltb 64 (size term)) → d .entries ≡ cond (ltb 64 (size term)) 65 (size term)
-        go (yes! h) =
-            let l = ltb-true 64 (size term) h in
-            rw h (ap (λ (m : Made). m .draft .entries) whole ∙ too-many term (made blank t o) (blank-sound t o room places) (omega arith))
-        go (no! h) = rw h (few (ltb-false 64 (size term) h) .0)
-
     pub makes : Makes p (d .entries) t′
-    makes = record { counted = counts; front = λ h. few h .1 }
+    makes =
+        record {
+          counted = ap (λ (m : Made). m .draft .entries) whole ∙ entries-counted t o room places term;
+          front = λ h. ap (λ (m : Made). take (4 * size term) (m .table)) whole ∙ built t o room places term h .2;
+        }

@@ -4,21 +4,22 @@ use native.Mathlib.Omega.{arith}
 use mathlib.Core.Path.{_≡_, refl}
 use mathlib.Core.Bool.{true, false}
 use mathlib.Core.List.{List}
-use borrow.Author.Tests.{ltb-false}
 use Rattle.model.specs.Syntax.{Path, NodeExpr}
 use Rattle.model.specs.Syntax.Path.{step, compose, union, intersect, except, filter, variable, fromRoot, closure}
 use Rattle.model.specs.QueryTable.{entriesOf, kind, left, right, pathAt, exprAt, lastOf}
 use Rattle.model.specs.Kinds.{isPath, namesVariable}
 use Rattle.model.specs.Refusals.{reply, verdict}
-use Rattle.model.specs.Checks.{queryChecks, roomChecks}
+use Rattle.model.specs.Checks.{queryChecks}
 use Rattle.model.specs.Encoding.{pathTerm, exprTerm, columns, columnsOf}
-use Rattle.model.proofs.Refusals.{Passes, numbered, accepted, Passes-front}
+use Rattle.model.proofs.Refusals.{Passes, Passes-front}
 use Rattle.model.proofs.Accepted.{entries-some, columns-most, last-path, variable-at, query-numbered}
 use Rattle.model.proofs.Formed.{PathBefore, ExprBefore, Read, sort-of, BySort, as-path, as-expr, by-sort}
 use Rattle.model.proofs.Formed.Read.{step!, compose!, union!, intersect!, except!, filter!, variable!, root!, exists!, negate!, both!, either!, is!, closure!, same! }
 use Rattle.model.proofs.Made.{ProperSteps, ProperStepsIn, made-passes-with}
+use Rattle.entries.specs.Size.{sizeChecks}
+use Rattle.entries.proofs.Size.{size-passes}
 use Rattle.reversal.specs.Reversed.{converse, reversed}
-use Rattle.reversal.specs.Service.{reversedQuery, reversedSize, reversedTable, sizeChecks, reverseChecks}
+use Rattle.reversal.specs.Service.{reversedQuery, reversedSize, reversedTable, reverseChecks}
 use Rattle.reversal.proofs.Service.{reversible}
 
 -- What an accepted query is read as.
@@ -154,8 +155,7 @@ module _ (q : List ℕ) (columns room : ℕ) (ok : verdict (reverseChecks q colu
   query-passes = checked .0
 
   fits : reversedSize q ≤ 64
-  unfolding sizeChecks roomChecks Passes numbered
-  fits = ltb-false 64 (reversedSize q) (accepted (sizeChecks (reversedSize q) room) refl (checked .1) .0)
+  fits = size-passes (reversedSize q) room _ refl (checked .1) .0
 
   -- for the reader: a query that is reversed is accepted, with as many variables
   pub reversed-passes : verdict (queryChecks (reversedTable q) 0 columns) ≡ reply 0 0

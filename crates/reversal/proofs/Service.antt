@@ -1,8 +1,7 @@
 -- Laws for the service: what the checks secure, the verdict, and what a refused call and an accepted one leave.
 use Prim.Native.Nat.{ℕ, _*_, _≤_, _<_}
-use native.Mathlib.Omega.{arith}
-use mathlib.Core.Path.{_≡_, refl, sym, ap, _∙_}
-use mathlib.Core.Bool.{true, false, not, cond, _&&_, _||_}
+use mathlib.Core.Path.{_≡_, sym, ap, _∙_}
+use mathlib.Core.Bool.{true, false, not, _&&_, _||_}
 use mathlib.Core.List.{List, _++_}
 use lib.ListN.{length, take, drop}
 use lib.Dec.{ltb, eqb}
@@ -12,16 +11,18 @@ use Rattle.model.specs.declared.MadeReply.{MadeReply}
 use Rattle.model.specs.QueryTable.{entriesOf, kind, left, right, tag, entry}
 use Rattle.model.specs.Kinds.{namesVariable, hasRight}
 use Rattle.model.specs.Encoding.{pathTerm}
-use Rattle.model.specs.Refusals.{reply, making, verdict}
-use Rattle.model.specs.Checks.{badStep, badVariable, badUnnamed, badEntry, queryChecks, roomChecks}
+use Rattle.model.specs.Refusals.{making, verdict}
+use Rattle.model.specs.Checks.{badStep, badVariable, badUnnamed, badEntry, queryChecks}
 use Rattle.model.specs.Services.{Leaves}
 use Rattle.model.proofs.Booleans.{Seen, yes!, no!, seen, no-yes, no-or, guarded}
 use Rattle.model.proofs.Exists.{none-of}
 use Rattle.model.proofs.Encoding.{length-encode}
-use Rattle.model.proofs.Refusals.{Passes, numbered, accepted, stop-all, pass-all, leaves-none, leaves-table}
+use Rattle.model.proofs.Refusals.{Passes, accepted, stop-all, pass-all, leaves-none, leaves-table}
 use Rattle.model.proofs.Accepted.{fields-at, axis-at, query-shaped, query-numbered}
+use Rattle.entries.specs.Size.{sizeChecks}
+use Rattle.entries.proofs.Size.{same-size, size-passes, counted-few}
 use Rattle.reversal.specs.Building.{Reversible, Makes}
-use Rattle.reversal.specs.Service.{reversedQuery, reversedSize, reversedTable, sizeChecks, reverseChecks, reverseVerdict, reversal}
+use Rattle.reversal.specs.Service.{reversedQuery, reversedSize, reversedTable, reverseChecks, reverseVerdict, reversal}
 
 -- an accepted query can be reversed
 module _ (q : List ℕ) (least columns : ℕ) (checked : Passes (queryChecks q least columns)) where
@@ -40,25 +41,6 @@ module _ (q : List ℕ) (least columns : ℕ) (checked : Passes (queryChecks q l
   pub reversible : Reversible q
   reversible = record { formed = query-shaped q least columns checked .formed; axis = axis-at q least columns checked; untagged = untagged-at }
 
--- the verdict on what is made, where more than 64 entries are counted as 65
-
-too-many : (n room : ℕ) → ltb 64 n ≡ true → verdict (sizeChecks n room) ≡ reply 26 0
-unfolding verdict sizeChecks
-too-many n room h = rw h
-
-same-made : (n entries room : ℕ) → entries ≡ cond (ltb 64 n) 65 n → verdict (sizeChecks entries room) ≡ verdict (sizeChecks n room)
-same-made n entries room e = go (seen (ltb 64 n))
-  where
-    go : Seen (ltb 64 n) → verdict (sizeChecks entries room) ≡ verdict (sizeChecks n room)
-    go (yes! h) = ap (λ (i : ℕ). verdict (sizeChecks i room)) (e ∙ rw h) ∙ too-many 65 room refl ∙ sym (too-many n room h)
-    go (no! h) = ap (λ (i : ℕ). verdict (sizeChecks i room)) (e ∙ rw h)
-
-pub size-passes : (entries room : ℕ) (u : Reply) → u ≡ verdict (sizeChecks entries room) → u .number ≡ 0 → (entries ≤ 64) × (4 * entries ≤ room)
-unfolding sizeChecks roomChecks numbered Passes
-size-passes entries room u f z =
-    let w = accepted (sizeChecks entries room) refl (sym (ap (λ (r : Reply). r .number) f) ∙ z) in
-    (ltb-false 64 entries (w .0), ltb-false room (4 * entries) (w .1 .0))
-
 -- a call, by the verdict v on its query
 module _ (q : List ℕ) (columns : ℕ) (out : List ℕ) (v : Reply) (checked : v ≡ verdict (queryChecks q 0 columns)) where
   pub query-refused : (r : MadeReply) → r ≡ making v 0 → (v .number ≡ 0 → ⊥) → Leaves (reversal q columns out) r out
@@ -76,7 +58,7 @@ module _ (q : List ℕ) (columns : ℕ) (out : List ℕ) (v : Reply) (checked : 
       unfolding reverseChecks
       same-verdict =
           pass-all (queryChecks q 0 columns) (sizeChecks (reversedSize q) (length out)) v u
-          (weighed ∙ same-made (reversedSize q) entries (length out) (w .counted)) checked fine (query-numbered q 0 columns)
+          (weighed ∙ ap (λ (i : ℕ). verdict (sizeChecks i (length out))) (w .counted) ∙ same-size (reversedSize q) (length out)) checked fine (query-numbered q 0 columns)
 
       pub made-refused : r ≡ making u 0 → (u .number ≡ 0 → ⊥) → Leaves (reversal q columns out) r out
       unfolding reversal
@@ -84,15 +66,9 @@ module _ (q : List ℕ) (columns : ℕ) (out : List ℕ) (v : Reply) (checked : 
 
       pub made-accepted : (after : List ℕ) → r ≡ making u (4 * entries) → after ≡ take (4 * entries) table ++ drop (4 * entries) out → u .number ≡ 0 → Leaves (reversal q columns out) r after
       unfolding reversal
-      made-accepted after p a z = go (seen (ltb 64 (reversedSize q)))
-        where
-          go : Seen (ltb 64 (reversedSize q)) → Leaves (reversal q columns out) r after
-          go (yes! h) =
-              let f : entries ≡ 65 = w .counted ∙ rw h in
-              let l = size-passes entries (length out) u weighed z .0 in
-              absurd (omega arith)
-          go (no! h) =
-              let f : entries ≡ reversedSize q = w .counted ∙ rw h in
-              leaves-table r u (reverseVerdict q columns out) same-verdict (reversedTable q) out (4 * entries) after p
-              (a ∙ ap (λ (l : List ℕ). l ++ drop (4 * entries) out) (ap (λ (i : ℕ). take (4 * i) table) f ∙ w .front (ltb-false 64 (reversedSize q) h)))
-              z (length-encode (pathTerm (reversedQuery q)) 0 ∙ ap (λ (i : ℕ). 4 * i) (sym f))
+      made-accepted after p a z =
+          let l = size-passes entries (length out) u weighed z .0 in
+          let (few, f) = counted-few (reversedSize q) entries (w .counted) l in
+          leaves-table r u (reverseVerdict q columns out) same-verdict (reversedTable q) out (4 * entries) after p
+          (a ∙ ap (λ (l : List ℕ). l ++ drop (4 * entries) out) (ap (λ (i : ℕ). take (4 * i) table) f ∙ w .front few))
+          z (length-encode (pathTerm (reversedQuery q)) 0 ∙ ap (λ (i : ℕ). 4 * i) (sym f))

@@ -1,10 +1,9 @@
 -- What the builder's functions write, as terms in postfix order (entries: Postfix).
 use Prim.Native.Nat.{ℕ, _*_, _≤_, _<_}
 use mathlib.Core.Path.{_≡_}
-use mathlib.Core.Bool.{true, cond}
+use mathlib.Core.Bool.{true}
 use mathlib.Core.List.{List, [], _∷_, _++_}
 use lib.ListN.{take}
-use lib.Dec.{ltb}
 use Rattle.model.specs.Syntax.{Path}
 use Rattle.model.specs.QueryTable.{entriesOf, kind, left, tag, pathAt}
 use Rattle.model.specs.Kinds.{namesVariable}
@@ -12,6 +11,7 @@ use Rattle.model.specs.Encoding.{Term, pathTerm, size, encode}
 use Rattle.model.specs.Accepted.{Formed}
 use Rattle.aside.specs.Aside.{termAt}
 use Rattle.entries.specs.Postfix.{Item, Made, postfix, Wrote}
+use Rattle.entries.specs.Size.{counted}
 use Rattle.reversal.specs.Reversed.{selfAtRoot, reversed}
 
 -- a query table that can be reversed, as the checks secure it: formed, its steps along axes, and no tag where a variable is named
@@ -46,5 +46,5 @@ reversedAt q e = reversed (pathAt q e)
 
 -- a path was made as a table of at most 64 entries: how many it has, more than 64 counted as 65, and the table at the front
 pub record Makes (p : Path) (entries : ℕ) (table : List ℕ) : Type 0 where
-  pub counted : entries ≡ cond (ltb 64 (size (pathTerm p))) 65 (size (pathTerm p))
+  pub counted : entries ≡ counted (size (pathTerm p))
   pub front : size (pathTerm p) ≤ 64 → take (4 * size (pathTerm p)) table ≡ encode 0 (pathTerm p)

@@ -1,16 +1,16 @@
 -- The service that turns a query round (document 02, §10), as a total function of all that it is lent.
-use Prim.Native.Nat.{ℕ, _*_}
-use mathlib.Core.List.{List, _∷_, _++_}
+use Prim.Native.Nat.{ℕ}
+use mathlib.Core.List.{List, _++_}
 use lib.ListN.{length}
-use lib.Dec.{ltb}
 use Rattle.model.specs.declared.Reply.{Reply}
 use Rattle.model.specs.declared.MadeReply.{MadeReply}
 use Rattle.model.specs.Syntax.{Path}
 use Rattle.model.specs.QueryTable.{pathAt, lastOf}
 use Rattle.model.specs.Encoding.{pathTerm, size, tableOf}
-use Rattle.model.specs.Refusals.{Check, refuse, verdict}
-use Rattle.model.specs.Checks.{queryChecks, roomChecks}
+use Rattle.model.specs.Refusals.{Check, verdict}
+use Rattle.model.specs.Checks.{queryChecks}
 use Rattle.model.specs.Services.{leaving}
+use Rattle.entries.specs.Size.{sizeChecks}
 use Rattle.reversal.specs.Reversed.{reversed}
 
 -- the query of a table, reversed
@@ -24,10 +24,6 @@ reversedSize q = size (pathTerm (reversedQuery q))
 -- its table (document 01: a query table that is made): a left operand's entries all before the right's
 abbrev pub reversedTable : List ℕ → List ℕ
 reversedTable q = tableOf (reversedQuery q)
-
--- 26: a query that is made has more than 64 entries; 20: the buffer has room for less than its table
-unfoldable pub sizeChecks : ℕ → ℕ → List Check
-sizeChecks entries room = refuse 26 (ltb 64 entries) ∷ roomChecks room (4 * entries)
 
 -- 8 to 15, then 26 and 20
 unfoldable pub reverseChecks : List ℕ → ℕ → ℕ → List Check

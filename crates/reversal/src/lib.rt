@@ -11,13 +11,12 @@ ghost use Rattle.model.specs.Syntax.Path.{step, variable};
 ghost use Rattle.model.specs.QueryTable.{entriesOf, kind, lastOf};
 ghost use Rattle.model.specs.Kinds.{isPath};
 ghost use Rattle.model.specs.Encoding.Term.{leaf};
-ghost use Rattle.model.specs.Refusals.{verdict};
 ghost use Rattle.model.specs.Services.{Leaves};
 ghost use Rattle.aside.specs.Aside.{termAt};
 ghost use Rattle.entries.specs.Postfix.{made, Sound, Wrote};
 ghost use Rattle.reversal.specs.Reversed.{converse, selfAtRoot, reversed};
 ghost use Rattle.reversal.specs.Building.{Reversible, Builds, BuildsPath, stepItems, rootItems, whereTerm, reversedAt, Makes};
-ghost use Rattle.reversal.specs.Service.{reversedQuery, sizeChecks, reversal};
+ghost use Rattle.reversal.specs.Service.{reversedQuery, reversal};
 
 // The test that every node passes.
 const NODE: u16 = 65534;
@@ -262,22 +261,6 @@ fn reverse_into(query: &[u16], table: &mut [u16]) -> usize
     d.entries
 }
 
-// The verdict on a query that is made: 26, 20.
-fn check_size(entries: usize, room: usize) -> model::Reply
-    requires { ⌜ entries ≤ 65 ⌝ }
-    ensures { λ r. ⌜ r ≡ verdict (sizeChecks entries room) ⌝ }
-{
-    let many = 64 < entries;
-    if many {
-        return model::reply_at(26, 0);
-    }
-    let short = room < 4 * entries;
-    if short {
-        return model::reply_at(20, 0);
-    }
-    model::reply_at(0, 0)
-}
-
 // The service: the query turned round, as a table at the front of the buffer.
 pub fn reverse(query: &[u16], columns: usize, out: &mut [u16]) -> model::MadeReply
     ensures { λ r. ⌜ Leaves (reversal (now (query .entry)) columns (now (out .entry))) r (now (out .exit)) ⌝ }
@@ -288,7 +271,7 @@ pub fn reverse(query: &[u16], columns: usize, out: &mut [u16]) -> model::MadeRep
     }
     let mut table = [0u16; 256];
     let entries = reverse_into(query, &mut table);
-    let w = check_size(entries, out.len());
+    let w = entries::check_size(entries, out.len());
     if w.number != 0 {
         return model::made_reply(w, 0);
     }

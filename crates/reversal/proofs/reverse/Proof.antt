@@ -2,7 +2,8 @@ use native.Mathlib.Omega.{arith}
 use mathlib.Core.Path.{_≡_, refl}
 use lib.ListN.{length}
 use Rattle.model.proofs.Accepted.{entries-some, last-path}
-use Rattle.reversal.proofs.Service.{reversible, checks-passed, query-refused, size-passes, made-refused, made-accepted}
+use Rattle.entries.proofs.Size.{size-passes}
+use Rattle.reversal.proofs.Service.{reversible, checks-passed, query-refused, made-refused, made-accepted}
 use borrow.Author.Needs.{needs}
 use Rattle.reversal.proofs.reverse.Statement.{statement}
 use Rattle.reversal.proofs.reverse.Tie as tie
@@ -41,7 +42,7 @@ slice-aggregate-copy c = search needs
 
 copy-requires : tie.Need-copy-requires
 copy-requires c κs =
-    let w = size-passes _ _ _ (c .before .before .before .before .check-size .ensures) (c .before .before .if2 .left) in
+    let w = size-passes (c .before .before .before .before .before .before .reverse-into .result) _ _ (c .before .before .before .before .check-size .ensures) (c .before .before .if2 .left) in
     let l : length (c .before .before .before .before .before .before .reverse-into .last .1 .0) ≡ 256 = search needs in
     (omega (arith, w .0), omega (arith, w .1))
 

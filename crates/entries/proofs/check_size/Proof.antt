@@ -1,15 +1,12 @@
-use Rattle.model.specs.Checks.{roomChecks}
 use Rattle.model.proofs.Refusals.{accept, stop, pass}
-use Rattle.reversal.specs.Service.{sizeChecks}
 use borrow.Author.Needs.{needs}
-use Rattle.reversal.proofs.check_size.Statement.{statement}
-use Rattle.reversal.proofs.check_size.Tie as tie
+use Rattle.entries.proofs.check_size.Statement.{statement}
+use Rattle.entries.proofs.check_size.Tie as tie
 
 reply-at-requires : tie.Need-reply-at-requires
 reply-at-requires c κs = search needs
 
 returns : tie.Need-returns
-unfolding sizeChecks roomChecks
 returns c = search (stop, needs)
 
 mul-short : tie.Need-mul-short
@@ -19,14 +16,12 @@ reply-at-requires-2 : tie.Need-reply-at-requires-2
 reply-at-requires-2 c κs = search needs
 
 returns-2 : tie.Need-returns-2
-unfolding sizeChecks roomChecks
 returns-2 c = search (stop, pass, needs)
 
 reply-at-requires-3 : tie.Need-reply-at-requires-3
 reply-at-requires-3 c κs = search needs
 
 returns-3 : tie.Need-returns-3
-unfolding sizeChecks roomChecks
 returns-3 c = search (accept, pass, needs)
 
 pub check-size-spec : {M : Type 1} → statement M
