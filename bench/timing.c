@@ -82,7 +82,7 @@ void time_engines(const struct engine *const *engines, size_t engine_count, cons
             printf(" %zu |", query->start);
         printf(" %zu | %.0f", found, best[0]);
         for (size_t i = 1; i < engine_count; i++)
-            printf(" | %.0f | %.1f", best[i], best[i] / best[0]);
+            printf(" | %.0f | %.*f", best[i], best[i] < best[0] / 10 ? 2 : 1, best[i] / best[0]);
         printf(" |\n");
         fflush(stdout);
     }
