@@ -36,7 +36,7 @@ pub struct Spot {
 // How the rows of a page are tried, beside the two sets that narrowing makes: for so many variables; by whole tables or by sets
 // (crate `engines`); how many variables must be bound before rows can be left out (crate `pruning`); and the entry of the query that is
 // left, with whether that is evaluated by whole tables, and whether the pairs of it may end at some nodes only (crate `narrowing`).
-#[derive(Drop)]
+#[derive(Clone, Copy)]
 struct Plan {
     columns: usize,
     whole: bool,

@@ -12,7 +12,7 @@ pub const MOST: usize = 63;
 
 // What is known of a text: bit k of `whole` is set if its first k bytes are grammatical, and bit k of `viable` if some
 // grammatical text, of any length, begins with them.
-#[derive(Drop)]
+#[derive(Clone, Copy)]
 pub struct Verdicts {
     pub whole: u64,
     pub viable: u64,

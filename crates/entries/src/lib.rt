@@ -9,7 +9,7 @@ ghost use Rattle.entries.specs.Size.{size_checks};
 
 // How far a table in the making has come: its entries, more than 64 counted as 65; the numbers on its stack, each of an entry that
 // no entry names yet; and how many variables it needs.
-#[derive(Drop)]
+#[derive(Clone, Copy)]
 pub struct Draft {
     pub entries: usize,
     pub depth: usize,

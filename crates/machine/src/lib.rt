@@ -3,7 +3,7 @@ ghost use Rattle.std.specs.Prelude.{◌≡◌, cond, ltb, ◌+◌, ◌-◌, ◌*
 ghost use Rattle.machine.specs.Machine.{takes, slashes, binds, pops, sort, top, stack_of, letter_focus, want_may, want_move, slash_move, have_flags, have_may, bracket_focus, close_move, join_move, have_move, want_turn, letter_turn, axis_turn, have_turn, turn_of, may_end};
 
 // A step of the reading: the new focus, how many gaps close, and the gap that opens, or 14 (specs/Machine.antt).
-#[derive(Drop)]
+#[derive(Clone, Copy)]
 pub struct Move {
     pub focus: u8,
     pub pops: usize,

@@ -4,7 +4,7 @@ ghost use Rattle.model.specs.Refusals.{reply, counting, making};
 
 // The reply to a call: 0 and 0, or the number and the place of a refusal.
 #[repr(C)]
-#[derive(Drop)]
+#[derive(Clone, Copy)]
 pub struct Reply {
     pub number: u16,
     pub place: u16,
@@ -13,7 +13,7 @@ pub struct Reply {
 // The reply to forwards, backwards and descendants: number and place, and how many nodes the result has (document 02: the count);
 // 0 of a refused call.
 #[repr(C)]
-#[derive(Drop)]
+#[derive(Clone, Copy)]
 pub struct ImageReply {
     pub number: u16,
     pub place: u16,
@@ -22,7 +22,7 @@ pub struct ImageReply {
 
 // The reply to the making of a table: number and place, and how many numbers the table has; 0 of a refused call.
 #[repr(C)]
-#[derive(Drop)]
+#[derive(Clone, Copy)]
 pub struct MadeReply {
     pub number: u16,
     pub place: u16,
@@ -43,7 +43,7 @@ pub struct PageReply {
 // The reply to a quick page call: that of a page call, and how many evaluations of the query it took (document 02, §7); 0 of a
 // refused call.
 #[repr(C)]
-#[derive(Drop)]
+#[derive(Clone, Copy)]
 pub struct QuickReply {
     pub number: u16,
     pub place: u16,
@@ -55,7 +55,7 @@ pub struct QuickReply {
 // The reply to the reading of a typed query: number and place, how many numbers its table has, and how many variables
 // (document 02: columns).
 #[repr(C)]
-#[derive(Drop)]
+#[derive(Clone, Copy)]
 pub struct ReadReply {
     pub number: u16,
     pub place: u16,
@@ -66,7 +66,7 @@ pub struct ReadReply {
 // Where a caller stands in the answers of a query (document 01: the walk): whether paging has begun, 0 if not and any other
 // byte if so, and the last row given, as three node numbers. All zero is a fresh cursor.
 #[repr(C)]
-#[derive(Drop)]
+#[derive(Clone, Copy)]
 pub struct Cursor {
     pub begun: u8,
     pub first: u16,
@@ -75,7 +75,7 @@ pub struct Cursor {
 }
 
 // The four numbers of an entry of a query table.
-#[derive(Drop)]
+#[derive(Clone, Copy)]
 pub struct Entry {
     pub kind: usize,
     pub left: usize,

@@ -15,7 +15,7 @@ ghost use Rattle.narrowing.specs.Narrowing.{Core, CoreOf, Left, Going, Decided, 
 
 // What is left of a query: the path at an entry, or nothing where that is the number of entries; the nodes that it starts from, and
 // those that it may end at, all nodes where they are not cut.
-#[derive(Drop)]
+#[derive(Clone, Copy)]
 pub struct Narrowed {
     pub entry: usize,
     pub cut: bool,

@@ -10,7 +10,7 @@ ghost use Rattle.reader.specs.Turns.{beginning, sought_name, sought_at, opens, k
 
 // How far the reading has come: the place in the text; the gaps that are open, and the focus; the axis that was read last, and
 // the place where the last name begins; whether a name had no tag, and the place of the first such; and the table so far.
-#[derive(Drop)]
+#[derive(Clone, Copy)]
 pub struct Progress {
     pub at: usize,
     pub depth: usize,
@@ -38,7 +38,7 @@ pub enum Step {
 }
 
 // A text read to its end, or no further: whether it is grammatical, and the place where it stopped; then the names and the table.
-#[derive(Drop)]
+#[derive(Clone, Copy)]
 pub struct Reading {
     pub readable: bool,
     pub stop: usize,

@@ -4,7 +4,7 @@ use harness::table;
 
 // The rows of so many variables over n nodes. A row is a number below count: its nodes are the digits to the base n, the
 // first weighing most, so that rows are in order as their numbers are.
-#[derive(Drop)]
+#[derive(Clone, Copy)]
 pub struct Space {
     pub n: usize,
     pub columns: usize,
@@ -60,7 +60,7 @@ fn is_answer(
 }
 
 // The answers of a query: the rows that they are among, and how many they are.
-#[derive(Drop)]
+#[derive(Clone, Copy)]
 pub struct Answers {
     pub space: Space,
     pub found: usize,
@@ -112,7 +112,7 @@ fn put_row(s: Space, row: usize, due: &mut table::Rows, behind: usize) {
 }
 
 // A page as it is due: how many rows it has, the row after its last, and whether a later one is an answer.
-#[derive(Drop)]
+#[derive(Clone, Copy)]
 pub struct Due {
     pub count: usize,
     pub next: usize,

@@ -76,7 +76,7 @@ pub fn make(seed: &mut u64, line: &line::Line, tree: &mut table::Table) {
 }
 
 // What to look for: the node where a search starts, and the tag.
-#[derive(Drop)]
+#[derive(Clone, Copy)]
 pub struct Aim {
     pub start: usize,
     pub tag: usize,

@@ -4,7 +4,7 @@ use harness::table;
 use reference::random;
 
 // What is taken out, from one place to another, and how many bytes come instead.
-#[derive(Drop)]
+#[derive(Clone, Copy)]
 struct Cut {
     start: usize,
     end: usize,

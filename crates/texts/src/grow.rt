@@ -14,7 +14,7 @@ pub type Numbers = [u16; 320];
 // A text as far as it is made: how many bytes it has; how many entries its table has and how many variables; where its first
 // unknown name starts, or 65535; the words and the names that it holds, bit k for number k; the heights of the two stacks; and
 // how many choices are left until all is made as short as can be.
-#[derive(Drop)]
+#[derive(Clone, Copy)]
 pub struct Made {
     pub length: usize,
     pub entries: usize,

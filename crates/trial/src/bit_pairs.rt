@@ -8,7 +8,7 @@ pub const PATTERN: u64 = 506381209866536711;
 
 // A call: what is lent beside the tables and the party, the number of variables and the words that there is room for; and the reply that
 // is due.
-#[derive(Drop)]
+#[derive(Clone, Copy)]
 pub struct Call {
     pub columns: usize,
     pub room: usize,

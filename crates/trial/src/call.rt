@@ -18,7 +18,7 @@ pub const PATTERN: u8 = 7;
 
 // A call: what is lent beside the tables and the party (the number of variables, how much of the set and how much of the buffer), and
 // the reply that is due; the count where the result is a set.
-#[derive(Drop)]
+#[derive(Clone, Copy)]
 pub struct Call {
     pub service: u8,
     pub columns: usize,

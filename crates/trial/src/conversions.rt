@@ -5,7 +5,7 @@ use harness::{line, table, tally};
 use reference::{bit_damage, bit_tables, random};
 
 // A call: the n that is told, how much of the table and of the buffer is lent, and the reply that is due.
-#[derive(Drop)]
+#[derive(Clone, Copy)]
 pub struct Call {
     pub n: usize,
     pub length: usize,

@@ -10,7 +10,7 @@ pub const NEXT_PATTERN: u16 = 65534;
 pub const TAGS_PATTERN: u16 = 65535;
 
 // A call: the numbers that there is room for, and the reply that is due.
-#[derive(Drop)]
+#[derive(Clone, Copy)]
 pub struct Call {
     pub next_room: usize,
     pub tags_room: usize,

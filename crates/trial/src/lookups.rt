@@ -4,7 +4,7 @@ use super::call;
 use harness::{line, shared, table, tally};
 
 // A call: where it starts, the tag, the bytes that there is room for, and the reply that is due.
-#[derive(Drop)]
+#[derive(Clone, Copy)]
 pub struct Call {
     pub start: usize,
     pub tag: usize,

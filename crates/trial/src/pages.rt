@@ -12,7 +12,7 @@ pub const PLAIN: u8 = 0;
 pub const QUICK: u8 = 1;
 
 // A call by a party that sees n nodes, and the reply that is due; only a quick page tells its evaluations.
-#[derive(Drop)]
+#[derive(Clone, Copy)]
 pub struct Call {
     pub way: u8,
     pub n: usize,

@@ -5,7 +5,7 @@ use harness::{line, shared, table, tally};
 use reference::{damage, effort, evaluator, listing, owning, random, seeing, steer};
 
 // Where paging stands: the cursor, the row from which it goes on, and whether there is more.
-#[derive(Drop)]
+#[derive(Clone, Copy)]
 pub struct Position {
     pub cursor: model::Cursor,
     pub next: usize,

@@ -5,7 +5,7 @@ use harness::{line, shared, table, tally};
 use reference::damage;
 
 // A call: the numbers that there is room for, and the reply that is due.
-#[derive(Drop)]
+#[derive(Clone, Copy)]
 struct Call {
     room: usize,
     due: model::MadeReply,

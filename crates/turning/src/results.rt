@@ -26,7 +26,7 @@ fn serve(
 }
 
 // How many nodes there are, and how many the image of a set has each way.
-#[derive(Drop)]
+#[derive(Clone, Copy)]
 struct Found {
     n: usize,
     ahead: usize,

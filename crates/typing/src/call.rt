@@ -7,7 +7,7 @@ use texts::grow;
 pub const PATTERN: u16 = 7777;
 
 // What a call is lent beside the text: how many bytes of each vocabulary, and how much of the buffer.
-#[derive(Drop)]
+#[derive(Clone, Copy)]
 pub struct Lent {
     pub house: usize,
     pub site: usize,

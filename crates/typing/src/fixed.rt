@@ -5,7 +5,7 @@ use harness::{line, table, tally};
 use texts::grow;
 
 // Where the next line starts, and how many bytes the present text and vocabularies have.
-#[derive(Drop)]
+#[derive(Clone, Copy)]
 pub struct Present {
     pub start: usize,
     pub text: usize,
