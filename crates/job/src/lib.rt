@@ -22,7 +22,7 @@ pub struct Job {
 }
 
 // A part as the trailer gives it: how far before the file's end it begins, and how many numbers it holds.
-#[derive(Drop)]
+#[derive(Clone, Copy)]
 struct Pointer {
     distance: u16,
     count: u16,

@@ -32,7 +32,7 @@ pub struct MadeReply {
 // The reply to a page call: number and place, how many rows it wrote, and whether a later row exists (document 01: count and
 // flag).
 #[repr(C)]
-#[derive(Drop)]
+#[derive(Clone, Copy)]
 pub struct PageReply {
     pub number: u16,
     pub place: u16,

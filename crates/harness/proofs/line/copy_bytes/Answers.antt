@@ -1,0 +1,13 @@
+use Rattle.harness.proofs.line.copy_bytes.Goals as goal
+
+-- `harness::line::copy_bytes` is safe and ends, and the buffer stays as long as it is.
+use Rattle.std.proofs.Common.{◌≡◌, ◌-◌, length, refl, arith, rules}
+
+pub loop-k-init : goal.loop-k-init
+loop-k-init c = refl
+
+pub loop-k-preserved : goal.loop-k-preserved
+loop-k-preserved c = omega (arith, c.put_byte.auto.0, c.loop-k.invariant)
+
+pub shape_of-to : goal.shape_of-to
+shape_of-to c = c.loop-k.invariant

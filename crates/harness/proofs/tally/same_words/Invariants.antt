@@ -1,0 +1,7 @@
+use Rattle.harness.proofs.tally.same_words.Given as goal
+
+abbrev pub invariant-loop-at : goal.invariant-loop-at
+invariant-loop-at l = Unit {0}
+
+abbrev pub decreases-loop-at : goal.decreases-loop-at
+decreases-loop-at l = 1040 - l.at

@@ -1,0 +1,7 @@
+use Rattle.lines.proofs.put_byte.Goals as goal
+
+-- One store.
+use Rattle.lines.proofs.Writing.{wrote_one}
+
+pub returns : goal.returns
+returns c = wrote_one _ _ _ c.requires

@@ -1,0 +1,20 @@
+use Rattle.names.specs.Names.{malformed}
+use mathlib.Core.Path.{refl}
+use Prim.Native.Nat.{◌-◌}
+use borrow.Author.Rules.{rules}
+use Rattle.names.proofs.is_malformed.Goals as goal
+
+-- The loop keeps that the whole table is malformed exactly if what stands from `at` on is.
+use Rattle.names.proofs.Reading.{fault, no_fault, no_more}
+
+pub loop-at-init : goal.loop-at-init
+loop-at-init c = refl
+
+pub returns-then-len : goal.returns-then-len
+returns-then-len c = search (fault, rules)
+
+pub loop-at-preserved : goal.loop-at-preserved
+loop-at-preserved c = search (no_fault, rules)
+
+pub returns : goal.returns
+returns c = search (no_more, rules)

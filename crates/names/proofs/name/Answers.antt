@@ -1,0 +1,27 @@
+use native.Mathlib.Omega.{arith}
+use Rattle.names.specs.Names.{nothing}
+use Rattle.names.specs.declared.Table.TheVariants.{House, Site}
+use Rattle.names.proofs.Requests.{is_name, ends_in, ends_below, no_name, is_part}
+use borrow.Author.Rules.{rules}
+use Rattle.names.proofs.name.Goals as goal
+
+-- The part is read off the case; a name lies in its table, so the slice of it can be taken.
+use mathlib.Core.Path.{refl}
+
+pub returns-in_default : goal.returns-in_default
+returns-in_default c = is_part _ _ _ House nothing _ (search (no_name, rules)) refl refl (omega arith) refl
+
+pub overflow_add-end : goal.overflow_add-end
+overflow_add-end c = search (ends_below, rules)
+
+pub slice_bounds-result-end-in-House : goal.slice_bounds-result-end-in-House
+slice_bounds-result-end-in-House c = let a = c.before.before.before.before in ends_in _ _ _ _ _ House a.before.before.look_up.ensures a.p.given.1 c.enum_told-in-House-1.given.1
+
+pub slice_bounds-result-end-in-Site : goal.slice_bounds-result-end-in-Site
+slice_bounds-result-end-in-Site c = let a = c.before.before.before.before in ends_in _ _ _ _ _ Site a.before.before.look_up.ensures a.p.given.1 c.enum_told-in-Site-1.given.1
+
+pub returns-in-House : goal.returns-in-House
+returns-in-House c = let a = c.before.before.before.before.before in is_part _ _ _ House a.p.given.0.0 _ (is_name _ _ _ _ _ a.before.before.look_up.ensures a.p.given.1) c.enum_told-in-House-1.given.1 refl (omega arith) refl
+
+pub returns-in-Site : goal.returns-in-Site
+returns-in-Site c = let a = c.before.before.before.before.before in is_part _ _ _ Site a.p.given.0.0 _ (is_name _ _ _ _ _ a.before.before.look_up.ensures a.p.given.1) c.enum_told-in-Site-1.given.1 refl (omega arith) refl

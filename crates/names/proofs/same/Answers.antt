@@ -1,0 +1,23 @@
+use native.Mathlib.Omega.{arith}
+use Prim.Native.Nat.{◌-◌}
+use mathlib.Core.Path.{refl}
+use Rattle.names.proofs.Searching.{other_size, byte_differs, byte_same, all_same}
+use Rattle.names.proofs.same.Goals as goal
+
+-- The loop keeps that what is before i is the same.
+use borrow.Author.Rules.{rules}
+
+pub returns-then-a-b : goal.returns-then-a-b
+returns-then-a-b c = search (other_size, rules)
+
+pub loop-i-init : goal.loop-i-init
+loop-i-init c = (omega arith, search rules, refl)
+
+pub returns-then-a-i : goal.returns-then-a-i
+returns-then-a-i c = search (byte_differs, rules)
+
+pub loop-i-preserved : goal.loop-i-preserved
+loop-i-preserved c = (omega arith, search rules, search (byte_same, rules))
+
+pub returns : goal.returns
+returns c = search (all_same, rules)

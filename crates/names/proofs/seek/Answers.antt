@@ -1,0 +1,20 @@
+use Rattle.names.specs.Names.{names}
+use mathlib.Core.Path.{refl}
+use Prim.Native.Nat.{◌-◌}
+use borrow.Author.Rules.{rules}
+use Rattle.names.proofs.seek.Goals as goal
+
+-- The loop keeps that the name sought is the one that is left to pass in what stands from `at` on.
+use Rattle.names.proofs.Reading.{here, later, ended}
+
+pub loop-at-init : goal.loop-at-init
+loop-at-init c = refl
+
+pub returns-then-left-eq0 : goal.returns-then-left-eq0
+returns-then-left-eq0 c = search (here, rules)
+
+pub loop-at-preserved : goal.loop-at-preserved
+loop-at-preserved c = search (later, rules)
+
+pub returns : goal.returns
+returns c = search (ended, rules)

@@ -1,0 +1,23 @@
+use mathlib.Core.Path.{refl}
+use Prim.Native.Nat.{◌-◌}
+use native.Mathlib.Omega.{arith}
+use borrow.Author.Rules.{rules}
+use Rattle.names.proofs.spot.Goals as goal
+
+-- The loop keeps that the search from `at` on finds what the whole search finds.
+use Rattle.names.proofs.Searching.{Goes, tags_end, is_hit, is_miss, table_ends}
+
+pub loop-at-init : goal.loop-at-init
+loop-at-init c = refl
+
+pub returns-then-number-gt65533 : goal.returns-then-number-gt65533
+returns-then-number-gt65533 c = tags_end _ _ _ _ _ c.loop-at.invariant (search rules) (omega arith)
+
+pub returns-then-is_name : goal.returns-then-is_name
+returns-then-is_name c = is_hit _ _ _ _ _ _ _ c.loop-at.invariant (search rules) (omega arith) c.wide-len.ensures.0 c.is_name.ensures c.if-is_name.true
+
+pub loop-at-preserved : goal.loop-at-preserved
+loop-at-preserved c = search (is_miss, rules)
+
+pub returns : goal.returns
+returns c = search (table_ends, rules)

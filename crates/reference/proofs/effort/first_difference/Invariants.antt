@@ -1,0 +1,7 @@
+use Rattle.reference.proofs.effort.first_difference.Given as goal
+
+abbrev pub invariant-loop-j : goal.invariant-loop-j
+invariant-loop-j l = Unit {0}
+
+abbrev pub decreases-loop-j : goal.decreases-loop-j
+decreases-loop-j l = l.columns - l.j

@@ -1,0 +1,7 @@
+use Rattle.reference.proofs.evaluator.is_next_sibling.Given as goal
+
+abbrev pub invariant-loop-z : goal.invariant-loop-z
+invariant-loop-z l = Unit {0}
+
+abbrev pub decreases-loop-z : goal.decreases-loop-z
+decreases-loop-z l = l.y - l.z

@@ -1,0 +1,4 @@
+use Rattle.sharing.proofs.stands.Goals as goal
+
+pub returns : goal.returns
+returns c = cc

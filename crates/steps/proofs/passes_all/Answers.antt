@@ -1,0 +1,4 @@
+use Rattle.steps.proofs.passes_all.Goals as goal
+
+pub returns : goal.returns
+returns c = cc

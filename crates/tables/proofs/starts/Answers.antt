@@ -1,0 +1,14 @@
+use Prim.Native.Nat.{◌-◌}
+use native.Mathlib.Omega.{arith}
+use borrow.Author.Rules.{rules}
+use Rattle.tables.proofs.Rows.{starts_none, start_stored, starts_whole}
+use Rattle.tables.proofs.starts.Goals as goal
+
+pub loop-x-init : goal.loop-x-init
+loop-x-init c = (omega arith, starts_none _)
+
+pub loop-x-preserved : goal.loop-x-preserved
+loop-x-preserved c = (omega arith, start_stored _ _ _ _ _ _ c.loop-x.invariant.1 c.is_occupied-found.ensures c.bit_if.ensures c.merge.ensures (omega arith))
+
+pub returns : goal.returns
+returns c = search (starts_whole, rules)

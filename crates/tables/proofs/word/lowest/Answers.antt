@@ -1,0 +1,6 @@
+use native.Mathlib.Omega.{arith}
+use lib.Count.{trailing_le}
+use Rattle.tables.proofs.word.lowest.Goals as goal
+
+pub overflow_cast-result : goal.overflow_cast-result
+overflow_cast-result c = omega (arith, trailing_le 64 c.args.w)
