@@ -9,7 +9,7 @@ pub previous_siblings-prev-requires : goal.previous_siblings-prev-requires
 previous_siblings-prev-requires c = (page_tree _ _ _ _ _ _ c.check_page-v.ensures c.if-v-ne0.false).sound
 
 pub prepare_page-requires : goal.prepare_page-requires
-prepare_page-requires c = let b = c.before.before.before in (page_listed _ _ _ _ _ _ b.before.before.check-page.ensures b.if1.false _ c.previous_siblings-prev.ensures, page_cursor _ _ _ _ _ _ b.before.before.check-page.ensures b.if1.false)
+prepare_page-requires c = (page_listed _ _ _ _ _ _ c.check_page-v.ensures c.if-v-ne0.false _ c.previous_siblings-prev.ensures, page_cursor _ _ _ _ _ _ c.check_page-v.ensures c.if-v-ne0.false)
 
 pub returns : goal.returns
-returns c = let b = c.before.before.before.before.before.before in page_accepted _ _ _ _ _ _ b.before.before.check-page.ensures b.if1.false c.prepare_page.result _ c.prepare_page.ensures
+returns c = page_accepted _ _ _ _ _ _ c.check_page-v.ensures c.if-v-ne0.false c.prepare_page.result _ c.prepare_page.ensures

@@ -10,7 +10,7 @@ pub returns-then-not-left : goal.returns-then-not-left
 returns-then-not-left c = search (none_left, rules)
 
 pub nests_at-requires : goal.nests_at-requires
-nests_at-requires c = let s = c.before.before.before in (s.requires.0, (s.requires.1, ltb-true _ _ (not-false _ c.if-not-left.false-raw)))
+nests_at-requires c = (c.requires.0, (c.requires.1, ltb-true _ _ (not-false _ c.if-not-left.false-raw)))
 
 pub returns : goal.returns
 returns c = search (some_left, rules)

@@ -16,19 +16,19 @@ pub returns-then-count-room : goal.returns-then-count-room
 returns-then-count-room c = search (page_full, rules)
 
 pub overflow_mul-count : goal.overflow_mul-count
-overflow_mul-count c = let l = c.loop-at in let s = c.before.before.before.before.before.before.before.before.before.before.before.before in record { fits = omega (arith, going_fits l.invariant c.if-count-room.false, going_length l.invariant, s.well-formed) }
+overflow_mul-count c = let l = c.loop-at in record { fits = omega (arith, going_fits l.invariant c.if-count-room.false, going_length l.invariant, c.before.before.before.before.before.before.before.before.before.before.before.before.well-formed) }
 
 pub write_row-requires : goal.write_row-requires
-write_row-requires c = let l = c.loop-at in let s = c.before.before.before.before.before.before.before.before.before.before.before.before in (s.requires.0.listed.searchable.most, going_fits l.invariant c.if-count-room.false)
+write_row-requires c = let l = c.loop-at in (c.requires.0.listed.searchable.most, going_fits l.invariant c.if-count-room.false)
 
 pub overflow_add-count : goal.overflow_add-count
-overflow_add-count c = let l = c.loop-at in let s = c.before.before.before.before.before.before.before.before.before.before.before.before.before.before.before.before in record { fits = omega (arith, going_count l.invariant c.if-count-room.false, s.well-formed) }
+overflow_add-count c = let l = c.loop-at in record { fits = omega (arith, going_count l.invariant c.if-count-room.false, c.before.before.before.before.before.before.before.before.before.before.before.before.before.before.before.before.well-formed) }
 
 pub answer_after-following-requires : goal.answer_after-following-requires
-answer_after-following-requires c = let l = c.loop-at in let s = c.before.before.before.before.before.before.before.before.before.before.before.before.before.before.before.before in (s.requires.0, ((answers_member s.args.tree.now s.args.query.now s.args.plan.columns (row_at s.args.plan.columns l.at)).0 (going_in l.invariant c.loop-at-test.true)).1)
+answer_after-following-requires c = let l = c.loop-at in (c.requires.0, ((answers_member c.args.tree.now c.args.query.now c.args.plan.columns (row_at c.args.plan.columns l.at)).0 (going_in l.invariant c.loop-at-test.true)).1)
 
 pub loop-at-preserved : goal.loop-at-preserved
-loop-at-preserved c = let b = c.before.before.before.before.before.before.before in going_turn b.before.before.loop.invariant b.before.loop-test.true b.if1.false _ c.write_row.ensures _ c.cursor_at-last.ensures _ c.answer_after-following.ensures
+loop-at-preserved c = going_turn c.loop-at.invariant c.loop-at-test.true c.if-count-room.false _ c.write_row.ensures _ c.cursor_at-last.ensures _ c.answer_after-following.ensures
 
 pub shape_of-rows : goal.shape_of-rows
 shape_of-rows c = search (going_length, rules)

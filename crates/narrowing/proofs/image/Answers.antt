@@ -6,7 +6,7 @@ use native.Mathlib.Omega.{arith}
 use Rattle.narrowing.proofs.image.Goals as goal
 
 pub slice_bounds-image-end : goal.slice_bounds-image-end
-slice_bounds-image-end c = let s = c.before.before.before.before in sym (length-take-le s.args.k (0 ∷ 0 ∷ 0 ∷ []) (omega (arith, s.requires.searchable.most)))
+slice_bounds-image-end c = sym (length-take-le c.args.k (0 ∷ 0 ∷ 0 ∷ []) (omega (arith, c.requires.searchable.most)))
 
 pub image-requires : goal.image-requires
 image-requires c = suits_zeros c.requires

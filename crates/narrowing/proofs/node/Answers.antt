@@ -6,7 +6,7 @@ use native.Mathlib.Omega.{arith}
 use Rattle.narrowing.proofs.node.Goals as goal
 
 pub slice_bounds-node-end : goal.slice_bounds-node-end
-slice_bounds-node-end c = let s = c.before.before.before.before in sym (length-take-le s.args.k (0 ∷ 0 ∷ 0 ∷ []) (omega (arith, s.requires.searchable.most)))
+slice_bounds-node-end c = sym (length-take-le c.args.k (0 ∷ 0 ∷ 0 ∷ []) (omega (arith, c.requires.searchable.most)))
 
 pub node-requires : goal.node-requires
 node-requires c = suits_zeros c.requires

@@ -10,9 +10,8 @@ loop-e-init c = (omega arith, search (opens_start, rules))
 
 pub put-requires : goal.put-requires
 put-requires c =
-    let s = c.before.before.before.before.before.before in
     let f = c.entry_at-f.ensures in
-    (search rules, (search rules, opened_narrow s.before.args.query.now _ c.loop-e.e _ _ c.opened_entry-g.ensures f.0 s.before.requires (search rules) f.1.0 f.1.1 (s.shared-slice-known.given _).fits))
+    (search rules, (search rules, opened_narrow c.args.query.now _ c.loop-e.e _ _ c.opened_entry-g.ensures f.0 c.requires (search rules) f.1.0 f.1.1 (c.shared_slice_known-1.given _).fits))
 
 pub loop-e-preserved : goal.loop-e-preserved
 loop-e-preserved c = search (opens_next, rules)

@@ -6,10 +6,10 @@ use Rattle.model.specs.Tree.{size_of}
 use Rattle.quick.proofs.has_answer.Goals as goal
 
 pub slice_bounds-satisfies-end : goal.slice_bounds-satisfies-end
-slice_bounds-satisfies-end c = opened_length c.requires.listed _ _ c.before.«open».ensures
+slice_bounds-satisfies-end c = opened_length c.requires.listed _ _ c.open-table.ensures
 
 pub satisfies-requires : goal.satisfies-requires
-satisfies-requires c = let s = c.before.before.before.before.before in (opened_searchable s.requires.listed _ _ c.before.«open».ensures, nodes_below (size_of s.args.tree.now) s.args.k (0 ∷ 0 ∷ 0 ∷ []) (long s.requires.listed (0 ∷ 0 ∷ 0 ∷ []) refl) (zero_nodes s.requires))
+satisfies-requires c = (opened_searchable c.requires.listed _ _ c.open-table.ensures, nodes_below (size_of c.args.tree.now) c.args.k (0 ∷ 0 ∷ 0 ∷ []) (long c.requires.listed (0 ∷ 0 ∷ 0 ∷ []) refl) (zero_nodes c.requires))
 
 pub returns : goal.returns
-returns c = let s = c.before.before.before.before.before.before in c.satisfies.ensures ∙ opened_satisfied s.requires.listed 0 _ c.before.before.«open».ensures (0 ∷ 0 ∷ 0 ∷ [])
+returns c = c.satisfies.ensures ∙ opened_satisfied c.requires.listed 0 _ c.open-table.ensures (0 ∷ 0 ∷ 0 ∷ [])

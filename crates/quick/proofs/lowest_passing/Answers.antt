@@ -4,19 +4,19 @@ use Rattle.quick.proofs.Search.{trying_start, trying_on, trying_hit, trying_end}
 use Rattle.quick.proofs.lowest_passing.Goals as goal
 
 pub loop-v-init : goal.loop-v-init
-loop-v-init c = let s = c.before.before.before in (trying_start _ _ _ s.requires.1.1.1.0, omega arith)
+loop-v-init c = (trying_start _ _ _ c.requires.1.1.1.0, omega arith)
 
 pub overflow_add-evaluations : goal.overflow_add-evaluations
-overflow_add-evaluations c = let s = c.before.before.before.before.before in record { fits = omega (arith, c.loop-v.invariant, s.requires.0.linked.tree.sound.at_most) }
+overflow_add-evaluations c = record { fits = omega (arith, c.loop-v.invariant, c.requires.0.linked.tree.sound.at_most) }
 
 pub passes_with-requires : goal.passes_with-requires
-passes_with-requires c = let s = c.before.before.before.before.before in (s.requires.0, (s.requires.1.0, (s.requires.1.1.0, c.loop-v-test.true)))
+passes_with-requires c = (c.requires.0, (c.requires.1.0, (c.requires.1.1.0, c.loop-v-test.true)))
 
 pub returns-then-passes_with : goal.returns-then-passes_with
 returns-then-passes_with c = let l = c.loop-v in (trying_hit _ _ _ _ _ l.invariant.0 c.passes_with.ensures c.if-passes_with.true, (omega (arith, l.invariant.1, c.loop-v-test.true), (λ h. omega (arith, l.invariant.1), λ h. absurd (omega (arith, c.loop-v-test.true)))))
 
 pub overflow_add-v : goal.overflow_add-v
-overflow_add-v c = let s = c.before.before.before.before.before.before.before in record { fits = omega (arith, c.loop-v-test.true, s.requires.0.linked.tree.sound.at_most) }
+overflow_add-v c = record { fits = omega (arith, c.loop-v-test.true, c.requires.0.linked.tree.sound.at_most) }
 
 pub loop-v-smaller : goal.loop-v-smaller
 loop-v-smaller c = omega (arith, c.loop-v-test.true)

@@ -12,7 +12,7 @@ pub nests-whole-requires : goal.nests-whole-requires
 nests-whole-requires c = let l = (quick_ready _ _ _ _ _ _ c.check_quick-v.ensures c.if-v-ne0.false _ c.previous_siblings-prev.ensures).listed in (l.shaped.formed, (omega (arith, l.shaped.few), omega (arith, l.searchable.path.within)))
 
 pub write_page-requires : goal.write_page-requires
-write_page-requires c = let b = c.before.before.before.before in (quick_ready _ _ _ _ _ _ b.before.before.check-quick.ensures b.if1.false _ c.previous_siblings-prev.ensures, quick_cursor _ _ _ _ _ _ b.before.before.check-quick.ensures b.if1.false)
+write_page-requires c = (quick_ready _ _ _ _ _ _ c.check_quick-v.ensures c.if-v-ne0.false _ c.previous_siblings-prev.ensures, quick_cursor _ _ _ _ _ _ c.check_quick-v.ensures c.if-v-ne0.false)
 
 pub returns : goal.returns
-returns c = let b = c.before.before.before.before.before.before.before in let w = c.write_page in leaves_accepted _ _ _ _ _ _ b.before.before.check-quick.ensures b.if1.false w.result _ w.ensures.0 w.ensures.1.0 w.ensures.1.1
+returns c = let w = c.write_page in leaves_accepted _ _ _ _ _ _ c.check_quick-v.ensures c.if-v-ne0.false w.result _ w.ensures.0 w.ensures.1.0 w.ensures.1.1

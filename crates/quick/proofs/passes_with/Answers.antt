@@ -5,7 +5,7 @@ use borrow.Author.Rules.{rules}
 use Rattle.quick.proofs.passes_with.Goals as goal
 
 pub satisfies-requires : goal.satisfies-requires
-satisfies-requires c = let s = c.before.before.before in (s.requires.0, going_below s.requires.0 s.args.row s.args.i s.args.v (omega arith) s.requires.1.1.0 s.requires.1.0 s.requires.1.1.1)
+satisfies-requires c = (c.requires.0, going_below c.requires.0 c.args.row c.args.i c.args.v (omega arith) c.requires.1.1.0 c.requires.1.0 c.requires.1.1.1)
 
 pub returns : goal.returns
 unfolding passes

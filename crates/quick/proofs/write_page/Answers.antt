@@ -20,7 +20,7 @@ pub write_row-requires : goal.write_row-requires
 write_row-requires c = (c.requires.0.listed.searchable.most, going_fits c.loop-at.invariant.going c.if-count-room.false)
 
 pub cursor_at-last-requires : goal.cursor_at-last-requires
-cursor_at-last-requires c = let s = c.before.before.before.before.before.before.before.before.before.before.before.before.before.before in (s.requires.0.listed.searchable.least, s.requires.0.listed.searchable.most)
+cursor_at-last-requires c = (c.requires.0.listed.searchable.least, c.requires.0.listed.searchable.most)
 
 pub overflow_add-count : goal.overflow_add-count
 overflow_add-count c = record { fits = omega (arith, going_count c.loop-at.invariant.going c.if-count-room.false, c.before.before.before.before.before.before.before.before.before.before.before.before.before.before.before.well-formed) }
@@ -32,7 +32,7 @@ pub overflow_add-evaluations : goal.overflow_add-evaluations
 overflow_add-evaluations c = record { fits = written_fits c.loop-at.invariant _ c.requires.0 _ c.answer_after-following.ensures.1.0 }
 
 pub loop-at-preserved : goal.loop-at-preserved
-loop-at-preserved c = let b = c.before.before.before.before.before.before.before.before.before in written_turn b.before.before.loop.invariant b.before.loop-test.true b.if1.false _ c.write_row.ensures _ c.cursor_at-last.ensures _ c.answer_after-following.ensures
+loop-at-preserved c = written_turn c.loop-at.invariant c.loop-at-test.true c.if-count-room.false _ c.write_row.ensures _ c.cursor_at-last.ensures _ c.answer_after-following.ensures
 
 pub shape_of-rows : goal.shape_of-rows
 shape_of-rows c = going_length c.loop-at.invariant.going
