@@ -1,3 +1,5 @@
+-- `chart::add_name` is safe and ends.
+use Rattle.std.proofs.Common.{◌-◌}
 use Rattle.chart.proofs.add_name.Given as goal
 
 abbrev pub invariant-loop-k : goal.invariant-loop-k

@@ -1,3 +1,5 @@
+-- `chart::add_words` is safe and ends.
+use Rattle.std.proofs.Common.{◌-◌}
 use Rattle.chart.proofs.add_words.Given as goal
 
 abbrev pub invariant-loop-word : goal.invariant-loop-word

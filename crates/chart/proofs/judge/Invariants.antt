@@ -1,3 +1,4 @@
+-- `chart::judge` is safe and ends.
 use Rattle.chart.proofs.judge.Given as goal
 
 abbrev pub invariant-loop-left : goal.invariant-loop-left

@@ -1,3 +1,5 @@
+-- `chart::run` is safe and ends.
+use Rattle.std.proofs.Common.{◌-◌}
 use Rattle.chart.proofs.run.Given as goal
 
 abbrev pub invariant-loop-k : goal.invariant-loop-k

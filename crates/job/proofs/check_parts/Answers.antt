@@ -1,10 +1,9 @@
+-- Each way out is a line of the verdict.
+use Rattle.job.proofs.Files.{starts_inside, ends_inside, same_overlap}
 use Rattle.job.specs.JobFile.{part_checks}
 use Rattle.model.proofs.Refusals.{accept, stop, pass}
 use borrow.Author.Rules.{rules}
 use Rattle.job.proofs.check_parts.Goals as goal
-
--- Each way out is a line of the verdict.
-use Rattle.job.proofs.Files.{starts_inside, ends_inside, same_overlap}
 
 pub returns-then-is_outside : goal.returns-then-is_outside
 unfolding part_checks

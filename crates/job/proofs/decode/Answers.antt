@@ -1,13 +1,10 @@
-use Rattle.job.specs.JobFile.{numbers}
+use Rattle.job.proofs.Files.{none_written, one_written, all_written}
 use lib.ListN.{length-set}
 use mathlib.Core.Path.{refl}
 use Prim.Native.Nat.{◌-◌}
 use native.Mathlib.Omega.{arith}
 use borrow.Author.Rules.{rules}
 use Rattle.job.proofs.decode.Goals as goal
-
--- The loop keeps that the first i numbers are written over the front.
-use Rattle.job.proofs.Files.{none_written, one_written, all_written}
 
 pub loop-i-init : goal.loop-i-init
 loop-i-init c = (omega arith, refl, none_written _ _ _)

@@ -1,3 +1,4 @@
+-- The loop keeps that the first i numbers are written over the front.
 use Rattle.job.specs.JobFile.{numbers}
 use lib.ListN.{length, drop}
 use mathlib.Core.List.{◌++◌}

@@ -1,10 +1,9 @@
+-- A byte is below 256, so both fit.
+use Rattle.job.specs.JobFile.{number_at}
 use Prim.Native.Nat.{◌+◌}
 use mathlib.Core.Path.{refl}
 use native.Mathlib.Omega.{arith}
 use Rattle.job.proofs.number_at.Goals as goal
-
--- A byte is below 256, so both fit.
-use Rattle.job.specs.JobFile.{number_at}
 
 pub overflow_cast-low : goal.overflow_cast-low
 overflow_cast-low c = omega (arith, c.shared_slice_known-1.given c.args.at)

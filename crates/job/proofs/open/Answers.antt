@@ -1,8 +1,7 @@
-use borrow.Author.Rules.{rules}
-use Rattle.job.proofs.open.Goals as goal
-
 -- An accepted file has its parts in it.
 use Rattle.job.proofs.Files.{refused_is, accepted_is, accepted_length, accepted_tree, accepted_query}
+use borrow.Author.Rules.{rules}
+use Rattle.job.proofs.open.Goals as goal
 
 pub returns-then-reply-ne0 : goal.returns-then-reply-ne0
 returns-then-reply-ne0 c = search (refused_is, rules)

@@ -1,7 +1,5 @@
-use Rattle.job.proofs.pointer_at.Goals as goal
-
 -- Field by field.
-use borrow.Author.Rules.{rules}
+use Rattle.job.proofs.pointer_at.Goals as goal
 
 pub returns : goal.returns
 returns c = cc

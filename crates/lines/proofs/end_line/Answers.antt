@@ -1,8 +1,7 @@
-use borrow.Author.Rules.{rules}
-use Rattle.lines.proofs.end_line.Goals as goal
-
 -- The word, and the number behind it.
 use Rattle.lines.proofs.Rows.{end_fits, wrote_end}
+use borrow.Author.Rules.{rules}
+use Rattle.lines.proofs.end_line.Goals as goal
 
 -- UNKNOWN NEED slice-aggregate-put-bytes
 -- slice-aggregate-put-bytes : tie.Need-slice-aggregate-put-bytes

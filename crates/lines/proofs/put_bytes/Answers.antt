@@ -1,11 +1,9 @@
+use Rattle.lines.proofs.Rows.{next_byte, next_byte_fits}
 use Rattle.lines.proofs.Writing.{begin, go_on, end}
 use lib.ListN.{drop_of_length-le}
 use Prim.Native.Nat.{◌-◌}
 use native.Mathlib.Omega.{arith}
 use Rattle.lines.proofs.put_bytes.Goals as goal
-
--- The loop keeps what is left to write.
-use Rattle.lines.proofs.Rows.{next_byte, next_byte_fits}
 
 pub loop-i-init : goal.loop-i-init
 loop-i-init c = (omega arith, begin _ _ _ c.requires)

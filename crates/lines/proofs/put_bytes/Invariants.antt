@@ -1,3 +1,4 @@
+-- The loop keeps what is left to write.
 use Rattle.lines.proofs.Writing.{Writing}
 use lib.ListN.{length, drop}
 use Prim.Native.Nat.{◌-◌, ◌≤◌}

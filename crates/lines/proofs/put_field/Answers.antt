@@ -1,7 +1,6 @@
-use Rattle.lines.proofs.put_field.Goals as goal
-
 -- The number, and the byte behind it.
 use Rattle.lines.proofs.Rows.{number_fits, byte_fits, wrote_field}
+use Rattle.lines.proofs.put_field.Goals as goal
 
 pub put_decimal-next-requires : goal.put_decimal-next-requires
 put_decimal-next-requires c = number_fits _ c.args.byte _ c.args.out.now c.requires

@@ -1,10 +1,8 @@
+use Rattle.lines.proofs.Rows.{next_number, next_number_fits, no_number}
 use Rattle.lines.proofs.Writing.{begin, go_on, end}
 use Prim.Native.Nat.{◌-◌}
 use native.Mathlib.Omega.{arith}
 use Rattle.lines.proofs.row_line.Goals as goal
-
--- The loop keeps what is left of the line.
-use Rattle.lines.proofs.Rows.{next_number, next_number_fits, no_number}
 
 pub loop-i-init : goal.loop-i-init
 loop-i-init c = (omega arith, begin _ _ _ c.requires)

@@ -1,3 +1,4 @@
+-- The loop keeps what is left of the line.
 use Rattle.lines.proofs.Writing.{Writing}
 use Rattle.lines.specs.Lines.{row_line}
 use lib.ListN.{length, drop}

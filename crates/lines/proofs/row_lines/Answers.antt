@@ -1,10 +1,8 @@
+use Rattle.lines.proofs.Rows.{next_row, next_row_fits, one_row, no_row, rows_length}
 use Rattle.lines.proofs.Writing.{begin, go_on, end}
 use mathlib.Core.Path.{refl}
 use native.Mathlib.Omega.{arith}
 use Rattle.lines.proofs.row_lines.Goals as goal
-
--- The loop keeps the lines that are left.
-use Rattle.lines.proofs.Rows.{next_row, next_row_fits, one_row, no_row, rows_length}
 
 pub loop-left-init : goal.loop-left-init
 loop-left-init c = (omega arith, begin _ _ _ (omega (arith, rows_length c.args.k c.args.count c.args.rows.now (λ i. (c.shared_slice_known-1.given i).fits))))

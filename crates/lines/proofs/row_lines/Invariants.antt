@@ -1,3 +1,4 @@
+-- The loop keeps the lines that are left.
 use Rattle.lines.proofs.Writing.{Writing}
 use Rattle.lines.specs.Lines.{row_lines}
 use lib.ListN.{length, drop}

@@ -1,10 +1,8 @@
+use borrow.Author.Rules.{rules}
 use mathlib.Core.Path.{refl, sym, ◌∙◌}
 use borrow.Author.Tests.{not-true, not-false}
 use Rattle.machine.proofs.Steps.{closed_start, closed_on, closed_stop, closed_end}
 use Rattle.machine.proofs.close.Goals as goal
-
--- The loop keeps what the gaps that it has closed come to.
-use borrow.Author.Rules.{rules}
 
 pub loop-left-init : goal.loop-left-init
 loop-left-init c = closed_start _ _ _ _

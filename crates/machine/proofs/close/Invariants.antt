@@ -1,3 +1,4 @@
+-- The loop keeps what the gaps that it has closed come to.
 use Rattle.machine.proofs.Steps.{Closed}
 use Rattle.machine.proofs.close.Given as goal
 

@@ -1,9 +1,8 @@
+-- Each way out is a line of the verdict.
+use Rattle.model.proofs.Refusals.{accept, stop, pass}
 use Rattle.names.specs.Names.{name_table_checks}
 use borrow.Author.Rules.{rules}
 use Rattle.names.proofs.check_tables.Goals as goal
-
--- Each way out is a line of the verdict.
-use Rattle.model.proofs.Refusals.{accept, stop, pass}
 
 pub returns-then-is_malformed : goal.returns-then-is_malformed
 unfolding name_table_checks

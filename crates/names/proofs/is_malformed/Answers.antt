@@ -1,11 +1,8 @@
-use Rattle.names.specs.Names.{malformed}
+use Rattle.names.proofs.Reading.{fault, no_fault, no_more}
 use mathlib.Core.Path.{refl}
 use Prim.Native.Nat.{◌-◌}
 use borrow.Author.Rules.{rules}
 use Rattle.names.proofs.is_malformed.Goals as goal
-
--- The loop keeps that the whole table is malformed exactly if what stands from `at` on is.
-use Rattle.names.proofs.Reading.{fault, no_fault, no_more}
 
 pub loop-at-init : goal.loop-at-init
 loop-at-init c = refl

@@ -1,3 +1,4 @@
+-- The loop keeps that the whole table is malformed exactly if what stands from `at` on is.
 use Rattle.names.specs.Names.{malformed_from, malformed}
 use lib.ListN.{length}
 use mathlib.Core.Path.{◌≡◌}

@@ -1,9 +1,8 @@
+-- Each way out is a line of the verdict.
+use Rattle.names.proofs.Requests.{too_high, missing, present, one, refused_21, refused_22, named}
 use native.Mathlib.Omega.{arith}
 use borrow.Author.Rules.{rules}
 use Rattle.names.proofs.look_up.Goals as goal
-
--- Each way out is a line of the verdict.
-use Rattle.names.proofs.Requests.{too_high, missing, present, one, refused_21, refused_22, named}
 
 pub returns-then-tables-ne0 : goal.returns-then-tables-ne0
 returns-then-tables-ne0 c = search (refused_21, rules)

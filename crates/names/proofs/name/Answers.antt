@@ -1,12 +1,11 @@
+-- The part is read off the case; a name lies in its table, so the slice of it can be taken.
+use mathlib.Core.Path.{refl}
 use native.Mathlib.Omega.{arith}
 use Rattle.names.specs.Names.{nothing}
 use Rattle.names.specs.declared.Table.TheVariants.{House, Site}
 use Rattle.names.proofs.Requests.{is_name, ends_in, ends_below, no_name, is_part}
 use borrow.Author.Rules.{rules}
 use Rattle.names.proofs.name.Goals as goal
-
--- The part is read off the case; a name lies in its table, so the slice of it can be taken.
-use mathlib.Core.Path.{refl}
 
 pub returns-in_default : goal.returns-in_default
 returns-in_default c = is_part _ _ _ House nothing _ (search (no_name, rules)) refl refl (omega arith) refl

@@ -1,11 +1,9 @@
+use borrow.Author.Rules.{rules}
 use native.Mathlib.Omega.{arith}
 use Prim.Native.Nat.{◌-◌}
 use mathlib.Core.Path.{refl}
 use Rattle.names.proofs.Searching.{other_size, byte_differs, byte_same, all_same}
 use Rattle.names.proofs.same.Goals as goal
-
--- The loop keeps that what is before i is the same.
-use borrow.Author.Rules.{rules}
 
 pub returns-then-a-b : goal.returns-then-a-b
 returns-then-a-b c = search (other_size, rules)

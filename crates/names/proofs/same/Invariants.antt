@@ -1,3 +1,4 @@
+-- The loop keeps that what is before i is the same.
 use Prim.Native.Nat.{◌-◌, ◌≤◌}
 use mathlib.Core.Path.{◌≡◌}
 use lib.ListN.{length, drop}

@@ -1,11 +1,8 @@
-use Rattle.names.specs.Names.{names}
+use Rattle.names.proofs.Reading.{here, later, ended}
 use mathlib.Core.Path.{refl}
 use Prim.Native.Nat.{◌-◌}
 use borrow.Author.Rules.{rules}
 use Rattle.names.proofs.seek.Goals as goal
-
--- The loop keeps that the name sought is the one that is left to pass in what stands from `at` on.
-use Rattle.names.proofs.Reading.{here, later, ended}
 
 pub loop-at-init : goal.loop-at-init
 loop-at-init c = refl

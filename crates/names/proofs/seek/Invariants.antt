@@ -1,3 +1,4 @@
+-- The loop keeps that the name sought is the one that is left to pass in what stands from `at` on.
 use Rattle.names.specs.Names.{names_from, names, found}
 use lib.ListN.{length}
 use mathlib.Core.Path.{◌≡◌}

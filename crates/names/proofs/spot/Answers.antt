@@ -1,11 +1,9 @@
+use Rattle.names.proofs.Searching.{tags_end, is_hit, is_miss, table_ends}
 use mathlib.Core.Path.{refl}
 use Prim.Native.Nat.{◌-◌}
 use native.Mathlib.Omega.{arith}
 use borrow.Author.Rules.{rules}
 use Rattle.names.proofs.spot.Goals as goal
-
--- The loop keeps that the search from `at` on finds what the whole search finds.
-use Rattle.names.proofs.Searching.{Goes, tags_end, is_hit, is_miss, table_ends}
 
 pub loop-at-init : goal.loop-at-init
 loop-at-init c = refl

@@ -1,3 +1,5 @@
+-- The loop keeps that the search from `at` on finds what the whole search finds.
+use Rattle.names.proofs.Searching.{Goes}
 use lib.ListN.{length}
 use Prim.Native.Nat.{◌-◌}
 use Rattle.names.proofs.spot.Given as goal

@@ -1,8 +1,7 @@
-use borrow.Author.Rules.{rules}
-use Rattle.names.proofs.tag_of.Goals as goal
-
 -- The tag is read off the two searches.
 use Rattle.names.proofs.Searching.{house_low, site_low, house_tag, site_tag, no_tag}
+use borrow.Author.Rules.{rules}
+use Rattle.names.proofs.tag_of.Goals as goal
 
 pub overflow_cast-result : goal.overflow_cast-result
 overflow_cast-result c = search (house_low, rules)

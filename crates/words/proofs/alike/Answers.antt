@@ -1,10 +1,8 @@
+use borrow.Author.Rules.{rules}
 use native.Mathlib.Omega.{arith}
 use Prim.Native.Nat.{◌-◌}
 use Rattle.words.proofs.Scanning.{alike_start, text_ends, word_ends, bytes_differ, bytes_agree}
 use Rattle.words.proofs.alike.Goals as goal
-
--- The loop keeps that the first i bytes are alike.
-use borrow.Author.Rules.{rules}
 
 pub loop-i-init : goal.loop-i-init
 loop-i-init c = (omega arith, omega arith, omega arith, search (alike_start, rules))

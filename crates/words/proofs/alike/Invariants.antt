@@ -1,3 +1,4 @@
+-- The loop keeps that the first i bytes are alike.
 use Prim.Native.Nat.{◌+◌, ◌-◌, ◌≤◌}
 use mathlib.Core.Path.{◌≡◌}
 use lib.ListN.{length, take, drop}

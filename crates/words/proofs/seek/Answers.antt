@@ -1,11 +1,9 @@
+use borrow.Author.Rules.{rules}
 use native.Mathlib.Omega.{arith}
 use Prim.Native.Nat.{ℕ, ◌-◌, ◌%◌}
 use mathlib.Core.Path.{refl, ap}
 use Rattle.words.proofs.Scanning.{word_found, word_missed, words_end}
 use Rattle.words.proofs.seek.Goals as goal
-
--- The loop keeps that the search from word k on finds what the whole search finds.
-use borrow.Author.Rules.{rules}
 
 pub loop-k-init : goal.loop-k-init
 loop-k-init c = (omega arith, omega arith, refl)

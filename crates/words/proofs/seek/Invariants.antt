@@ -1,3 +1,4 @@
+-- The loop keeps that the search from word k on finds what the whole search finds.
 use Prim.Native.Nat.{◌-◌, ◌≤◌}
 use mathlib.Core.Path.{◌≡◌}
 use lib.ListN.{drop}

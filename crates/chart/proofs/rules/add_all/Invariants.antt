@@ -1,3 +1,5 @@
+-- `chart::rules::add_all` is safe and ends.
+use Rattle.std.proofs.Common.{◌-◌}
 use Rattle.chart.proofs.rules.add_all.Given as goal
 
 abbrev pub invariant-loop-rule : goal.invariant-loop-rule

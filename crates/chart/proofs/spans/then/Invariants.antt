@@ -1,3 +1,5 @@
+-- `chart::spans::then` is safe and ends.
+use Rattle.std.proofs.Common.{◌-◌}
 use Rattle.chart.proofs.spans.then.Given as goal
 
 abbrev pub invariant-loop-k : goal.invariant-loop-k

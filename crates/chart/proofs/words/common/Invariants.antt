@@ -1,3 +1,5 @@
+-- `chart::words::common` is safe and ends.
+use Rattle.std.proofs.Common.{◌-◌}
 use Rattle.chart.proofs.words.common.Given as goal
 
 abbrev pub invariant-loop-k : goal.invariant-loop-k

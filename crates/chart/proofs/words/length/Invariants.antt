@@ -1,3 +1,5 @@
+-- `chart::words::length` is safe and ends.
+use Rattle.std.proofs.Common.{◌-◌}
 use Rattle.chart.proofs.words.length.Given as goal
 
 abbrev pub invariant-loop-k : goal.invariant-loop-k

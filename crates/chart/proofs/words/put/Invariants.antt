@@ -1,3 +1,5 @@
+-- `chart::words::put` is safe and ends.
+use Rattle.std.proofs.Common.{◌-◌}
 use Rattle.chart.proofs.words.put.Given as goal
 
 abbrev pub invariant-loop-k : goal.invariant-loop-k

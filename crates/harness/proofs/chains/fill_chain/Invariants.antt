@@ -1,3 +1,5 @@
+-- `harness::chains::fill_chain` is safe and ends.
+use Rattle.std.proofs.Common.{◌-◌}
 use Rattle.harness.proofs.chains.fill_chain.Given as goal
 
 abbrev pub invariant-loop-x : goal.invariant-loop-x

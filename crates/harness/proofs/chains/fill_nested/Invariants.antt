@@ -1,3 +1,5 @@
+-- `harness::chains::fill_nested` is safe and ends.
+use Rattle.std.proofs.Common.{◌-◌}
 use Rattle.harness.proofs.chains.fill_nested.Given as goal
 
 abbrev pub invariant-loop-e : goal.invariant-loop-e

@@ -1,3 +1,5 @@
+-- `harness::line::copy` is safe and ends.
+use Rattle.std.proofs.Common.{◌-◌}
 use Rattle.harness.proofs.line.copy.Given as goal
 
 abbrev pub invariant-loop-k : goal.invariant-loop-k

@@ -1,7 +1,5 @@
+use Rattle.std.proofs.Common.{◌-◌, refl, arith}
 use Rattle.harness.proofs.line.copy_bytes.Goals as goal
-
--- `harness::line::copy_bytes` is safe and ends, and the buffer stays as long as it is.
-use Rattle.std.proofs.Common.{◌≡◌, ◌-◌, length, refl, arith, rules}
 
 pub loop-k-init : goal.loop-k-init
 loop-k-init c = refl

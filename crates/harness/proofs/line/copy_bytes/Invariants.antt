@@ -1,3 +1,5 @@
+-- `harness::line::copy_bytes` is safe and ends, and the buffer stays as long as it is.
+use Rattle.std.proofs.Common.{◌≡◌, ◌-◌, length}
 use Rattle.harness.proofs.line.copy_bytes.Given as goal
 
 abbrev pub invariant-loop-k : goal.invariant-loop-k

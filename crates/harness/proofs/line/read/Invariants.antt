@@ -1,3 +1,5 @@
+-- `harness::line::read` is safe and ends.
+use Rattle.std.proofs.Common.{◌-◌, length}
 use Rattle.harness.proofs.line.read.Given as goal
 
 abbrev pub invariant-loop-i : goal.invariant-loop-i

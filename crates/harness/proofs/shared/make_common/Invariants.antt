@@ -1,3 +1,5 @@
+-- `harness::shared::make_common` is safe and ends.
+use Rattle.std.proofs.Common.{◌-◌}
 use Rattle.harness.proofs.shared.make_common.Given as goal
 
 abbrev pub invariant-loop-k : goal.invariant-loop-k

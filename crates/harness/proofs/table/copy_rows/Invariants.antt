@@ -1,3 +1,5 @@
+-- `harness::table::copy_rows` is safe and ends.
+use Rattle.std.proofs.Common.{◌-◌, length}
 use Rattle.harness.proofs.table.copy_rows.Given as goal
 
 abbrev pub invariant-loop-k : goal.invariant-loop-k

@@ -1,3 +1,5 @@
+-- `harness::tally::same_rows` is safe and ends.
+use Rattle.std.proofs.Common.{◌-◌}
 use Rattle.harness.proofs.tally.same_rows.Given as goal
 
 abbrev pub invariant-loop-at : goal.invariant-loop-at

@@ -1,3 +1,5 @@
+-- `harness::tally::show_replies` is safe and ends.
+use Rattle.std.proofs.Common.{◌-◌}
 use Rattle.harness.proofs.tally.show_replies.Given as goal
 
 abbrev pub invariant-loop-number : goal.invariant-loop-number

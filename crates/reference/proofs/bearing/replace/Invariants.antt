@@ -1,3 +1,5 @@
+-- `reference::bearing::replace` is safe and ends.
+use Rattle.std.proofs.Common.{◌-◌}
 use Rattle.reference.proofs.bearing.replace.Given as goal
 
 abbrev pub invariant-loop-e : goal.invariant-loop-e

@@ -1,3 +1,5 @@
+-- `reference::bit_damage::make_cells` is safe and ends.
+use Rattle.std.proofs.Common.{◌-◌}
 use Rattle.reference.proofs.bit_damage.make_cells.Given as goal
 
 abbrev pub invariant-loop-i : goal.invariant-loop-i

@@ -1,3 +1,5 @@
+-- `reference::bit_tables::first_high` is safe and ends.
+use Rattle.std.proofs.Common.{◌-◌}
 use Rattle.reference.proofs.bit_tables.first_high.Given as goal
 
 abbrev pub invariant-loop-i : goal.invariant-loop-i

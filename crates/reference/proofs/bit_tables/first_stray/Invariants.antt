@@ -1,3 +1,5 @@
+-- `reference::bit_tables::first_stray` is safe and ends.
+use Rattle.std.proofs.Common.{◌-◌}
 use Rattle.reference.proofs.bit_tables.first_stray.Given as goal
 
 abbrev pub invariant-loop-x : goal.invariant-loop-x

@@ -1,3 +1,5 @@
+-- `reference::bit_tables::is_stray` is safe and ends.
+use Rattle.std.proofs.Common.{◌-◌}
 use Rattle.reference.proofs.bit_tables.is_stray.Given as goal
 
 abbrev pub invariant-loop-y : goal.invariant-loop-y

@@ -1,3 +1,5 @@
+-- `reference::bit_tables::unpack` is safe and ends.
+use Rattle.std.proofs.Common.{◌-◌}
 use Rattle.reference.proofs.bit_tables.unpack.Given as goal
 
 abbrev pub invariant-loop-i : goal.invariant-loop-i

@@ -1,3 +1,5 @@
+-- `reference::closing::copy` is safe and ends.
+use Rattle.std.proofs.Common.{◌-◌}
 use Rattle.reference.proofs.closing.copy.Given as goal
 
 abbrev pub invariant-loop-e : goal.invariant-loop-e

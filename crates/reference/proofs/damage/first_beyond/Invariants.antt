@@ -1,3 +1,5 @@
+-- `reference::damage::first_beyond` is safe and ends.
+use Rattle.std.proofs.Common.{◌-◌}
 use Rattle.reference.proofs.damage.first_beyond.Given as goal
 
 abbrev pub invariant-loop-e : goal.invariant-loop-e

@@ -1,3 +1,5 @@
+-- `reference::effort::answer_after` is safe and ends.
+use Rattle.std.proofs.Common.{◌-◌}
 use Rattle.reference.proofs.effort.answer_after.Given as goal
 
 abbrev pub invariant-loop-row : goal.invariant-loop-row

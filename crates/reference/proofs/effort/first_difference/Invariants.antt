@@ -1,3 +1,5 @@
+-- `reference::effort::first_difference` is safe and ends.
+use Rattle.std.proofs.Common.{◌-◌}
 use Rattle.reference.proofs.effort.first_difference.Given as goal
 
 abbrev pub invariant-loop-j : goal.invariant-loop-j

@@ -1,3 +1,5 @@
+-- `reference::effort::from_variable` is safe and ends.
+use Rattle.std.proofs.Common.{◌-◌}
 use Rattle.reference.proofs.effort.from_variable.Given as goal
 
 abbrev pub invariant-loop-i : goal.invariant-loop-i

@@ -1,3 +1,5 @@
+-- `reference::effort::of_page` is safe and ends.
+use Rattle.std.proofs.Common.{◌-◌}
 use Rattle.reference.proofs.effort.of_page.Given as goal
 
 abbrev pub invariant-loop-i : goal.invariant-loop-i

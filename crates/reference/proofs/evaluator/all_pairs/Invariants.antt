@@ -1,3 +1,5 @@
+-- `reference::evaluator::all_pairs` is safe and ends.
+use Rattle.std.proofs.Common.{◌-◌}
 use Rattle.reference.proofs.evaluator.all_pairs.Given as goal
 
 abbrev pub invariant-loop-x : goal.invariant-loop-x

@@ -1,3 +1,5 @@
+-- `reference::evaluator::close` is safe and ends.
+use Rattle.std.proofs.Common.{◌-◌}
 use Rattle.reference.proofs.evaluator.close.Given as goal
 
 abbrev pub invariant-loop-x : goal.invariant-loop-x

@@ -1,3 +1,5 @@
+-- `reference::evaluator::fill_entries` is safe and ends.
+use Rattle.std.proofs.Common.{◌-◌}
 use Rattle.reference.proofs.evaluator.fill_entries.Given as goal
 
 abbrev pub invariant-loop-e : goal.invariant-loop-e

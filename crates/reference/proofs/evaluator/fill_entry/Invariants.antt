@@ -1,3 +1,5 @@
+-- `reference::evaluator::fill_entry` is safe and ends.
+use Rattle.std.proofs.Common.{◌-◌}
 use Rattle.reference.proofs.evaluator.fill_entry.Given as goal
 
 abbrev pub invariant-loop-x : goal.invariant-loop-x

@@ -1,3 +1,5 @@
+-- `reference::evaluator::fill_row` is safe and ends.
+use Rattle.std.proofs.Common.{◌-◌}
 use Rattle.reference.proofs.evaluator.fill_row.Given as goal
 
 abbrev pub invariant-loop-y : goal.invariant-loop-y

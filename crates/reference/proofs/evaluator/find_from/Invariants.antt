@@ -1,3 +1,5 @@
+-- `reference::evaluator::find_from` is safe and ends.
+use Rattle.std.proofs.Common.{◌-◌}
 use Rattle.reference.proofs.evaluator.find_from.Given as goal
 
 abbrev pub invariant-loop-y : goal.invariant-loop-y

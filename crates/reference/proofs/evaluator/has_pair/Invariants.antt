@@ -1,3 +1,5 @@
+-- `reference::evaluator::has_pair` is safe and ends.
+use Rattle.std.proofs.Common.{◌-◌}
 use Rattle.reference.proofs.evaluator.has_pair.Given as goal
 
 abbrev pub invariant-loop-x : goal.invariant-loop-x

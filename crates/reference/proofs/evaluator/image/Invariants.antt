@@ -1,3 +1,5 @@
+-- `reference::evaluator::image` is safe and ends.
+use Rattle.std.proofs.Common.{◌-◌}
 use Rattle.reference.proofs.evaluator.image.Given as goal
 
 abbrev pub invariant-loop-y : goal.invariant-loop-y

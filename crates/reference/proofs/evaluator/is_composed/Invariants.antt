@@ -1,3 +1,5 @@
+-- `reference::evaluator::is_composed` is safe and ends.
+use Rattle.std.proofs.Common.{◌-◌}
 use Rattle.reference.proofs.evaluator.is_composed.Given as goal
 
 abbrev pub invariant-loop-z : goal.invariant-loop-z

@@ -1,3 +1,5 @@
+-- `reference::evaluator::is_descendant` is safe and ends.
+use Rattle.std.proofs.Common.{◌-◌}
 use Rattle.reference.proofs.evaluator.is_descendant.Given as goal
 
 abbrev pub invariant-loop-i : goal.invariant-loop-i

@@ -1,3 +1,5 @@
+-- `reference::evaluator::is_reached` is safe and ends.
+use Rattle.std.proofs.Common.{◌-◌}
 use Rattle.reference.proofs.evaluator.is_reached.Given as goal
 
 abbrev pub invariant-loop-x : goal.invariant-loop-x

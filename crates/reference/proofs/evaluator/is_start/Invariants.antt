@@ -1,3 +1,5 @@
+-- `reference::evaluator::is_start` is safe and ends.
+use Rattle.std.proofs.Common.{◌-◌}
 use Rattle.reference.proofs.evaluator.is_start.Given as goal
 
 abbrev pub invariant-loop-y : goal.invariant-loop-y

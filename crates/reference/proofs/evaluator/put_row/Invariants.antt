@@ -1,3 +1,5 @@
+-- `reference::evaluator::put_row` is safe and ends.
+use Rattle.std.proofs.Common.{◌-◌}
 use Rattle.reference.proofs.evaluator.put_row.Given as goal
 
 abbrev pub invariant-loop-y : goal.invariant-loop-y

@@ -1,3 +1,5 @@
+-- `reference::evaluator::search` is safe and ends.
+use Rattle.std.proofs.Common.{◌-◌}
 use Rattle.reference.proofs.evaluator.search.Given as goal
 
 abbrev pub invariant-loop-i : goal.invariant-loop-i

@@ -1,3 +1,5 @@
+-- `reference::listing::due_page` is safe and ends.
+use Rattle.std.proofs.Common.{◌-◌}
 use Rattle.reference.proofs.listing.due_page.Given as goal
 
 abbrev pub invariant-loop-row : goal.invariant-loop-row

@@ -1,3 +1,5 @@
+-- `reference::listing::list` is safe and ends.
+use Rattle.std.proofs.Common.{◌-◌}
 use Rattle.reference.proofs.listing.list.Given as goal
 
 abbrev pub invariant-loop-row : goal.invariant-loop-row

@@ -1,3 +1,5 @@
+-- `reference::listing::node` is safe and ends.
+use Rattle.std.proofs.Common.{◌-◌}
 use Rattle.reference.proofs.listing.node.Given as goal
 
 abbrev pub invariant-loop-i : goal.invariant-loop-i

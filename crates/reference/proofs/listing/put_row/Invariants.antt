@@ -1,3 +1,5 @@
+-- `reference::listing::put_row` is safe and ends.
+use Rattle.std.proofs.Common.{◌-◌}
 use Rattle.reference.proofs.listing.put_row.Given as goal
 
 abbrev pub invariant-loop-j : goal.invariant-loop-j

@@ -1,3 +1,5 @@
+-- `reference::owning::hide_around` is safe and ends.
+use Rattle.std.proofs.Common.{◌-◌}
 use Rattle.reference.proofs.owning.hide_around.Given as goal
 
 abbrev pub invariant-loop-x : goal.invariant-loop-x

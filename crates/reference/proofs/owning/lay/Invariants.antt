@@ -1,3 +1,5 @@
+-- `reference::owning::lay` is safe and ends.
+use Rattle.std.proofs.Common.{◌-◌}
 use Rattle.reference.proofs.owning.lay.Given as goal
 
 abbrev pub invariant-loop-x : goal.invariant-loop-x

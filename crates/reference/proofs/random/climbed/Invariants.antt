@@ -1,3 +1,5 @@
+-- `reference::random::climbed` is safe and ends.
+use Rattle.std.proofs.Common.{◌-◌}
 use Rattle.reference.proofs.random.climbed.Given as goal
 
 abbrev pub invariant-loop-i : goal.invariant-loop-i

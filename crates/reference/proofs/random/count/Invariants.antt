@@ -1,3 +1,5 @@
+-- `reference::random::count` is safe and ends.
+use Rattle.std.proofs.Common.{◌-◌}
 use Rattle.reference.proofs.random.count.Given as goal
 
 abbrev pub invariant-loop-e : goal.invariant-loop-e

@@ -1,3 +1,5 @@
+-- `reference::random::find` is safe and ends.
+use Rattle.std.proofs.Common.{◌-◌}
 use Rattle.reference.proofs.random.find.Given as goal
 
 abbrev pub invariant-loop-i : goal.invariant-loop-i

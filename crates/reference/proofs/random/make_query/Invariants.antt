@@ -1,3 +1,5 @@
+-- `reference::random::make_query` is safe and ends.
+use Rattle.std.proofs.Common.{◌-◌}
 use Rattle.reference.proofs.random.make_query.Given as goal
 
 abbrev pub invariant-loop-e : goal.invariant-loop-e

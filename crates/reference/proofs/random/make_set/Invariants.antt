@@ -1,3 +1,5 @@
+-- `reference::random::make_set` is safe and ends.
+use Rattle.std.proofs.Common.{◌-◌}
 use Rattle.reference.proofs.random.make_set.Given as goal
 
 abbrev pub invariant-loop-x : goal.invariant-loop-x

@@ -1,3 +1,5 @@
+-- `reference::random::make_tree` is safe and ends.
+use Rattle.std.proofs.Common.{◌-◌}
 use Rattle.reference.proofs.random.make_tree.Given as goal
 
 abbrev pub invariant-loop-x : goal.invariant-loop-x

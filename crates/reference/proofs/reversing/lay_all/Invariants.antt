@@ -1,3 +1,4 @@
+-- `reference::reversing::lay_all` is safe and ends.
 use Rattle.reference.proofs.reversing.lay_all.Given as goal
 
 abbrev pub invariant-loop-e : goal.invariant-loop-e

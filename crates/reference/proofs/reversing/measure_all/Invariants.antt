@@ -1,3 +1,5 @@
+-- `reference::reversing::measure_all` is safe and ends.
+use Rattle.std.proofs.Common.{◌-◌}
 use Rattle.reference.proofs.reversing.measure_all.Given as goal
 
 abbrev pub invariant-loop-e : goal.invariant-loop-e

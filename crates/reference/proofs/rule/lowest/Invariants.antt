@@ -1,3 +1,5 @@
+-- `reference::rule::lowest` is safe and ends.
+use Rattle.std.proofs.Common.{◌-◌}
 use Rattle.reference.proofs.rule.lowest.Given as goal
 
 abbrev pub invariant-loop-e : goal.invariant-loop-e

@@ -1,3 +1,5 @@
+-- `reference::searching::copy` is safe and ends.
+use Rattle.std.proofs.Common.{◌-◌}
 use Rattle.reference.proofs.searching.copy.Given as goal
 
 abbrev pub invariant-loop-x : goal.invariant-loop-x

@@ -1,3 +1,5 @@
+-- `reference::searching::follow` is safe and ends.
+use Rattle.std.proofs.Common.{◌-◌}
 use Rattle.reference.proofs.searching.follow.Given as goal
 
 abbrev pub invariant-loop-count : goal.invariant-loop-count

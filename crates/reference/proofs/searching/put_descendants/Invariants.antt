@@ -1,3 +1,5 @@
+-- `reference::searching::put_descendants` is safe and ends.
+use Rattle.std.proofs.Common.{◌-◌}
 use Rattle.reference.proofs.searching.put_descendants.Given as goal
 
 abbrev pub invariant-loop-y : goal.invariant-loop-y

@@ -1,3 +1,5 @@
+-- `reference::seeing::hides_through` is safe and ends.
+use Rattle.std.proofs.Common.{◌-◌}
 use Rattle.reference.proofs.seeing.hides_through.Given as goal
 
 abbrev pub invariant-loop-x : goal.invariant-loop-x

@@ -1,3 +1,5 @@
+-- `reference::seeing::put_all` is safe and ends.
+use Rattle.std.proofs.Common.{◌-◌}
 use Rattle.reference.proofs.seeing.put_all.Given as goal
 
 abbrev pub invariant-loop-x : goal.invariant-loop-x

@@ -1,3 +1,5 @@
+-- `reference::seeing::seen_before` is safe and ends.
+use Rattle.std.proofs.Common.{◌-◌}
 use Rattle.reference.proofs.seeing.seen_before.Given as goal
 
 abbrev pub invariant-loop-y : goal.invariant-loop-y

@@ -1,3 +1,5 @@
+-- `reference::shapes::append_joins` is safe and ends.
+use Rattle.std.proofs.Common.{◌-◌}
 use Rattle.reference.proofs.shapes.append_joins.Given as goal
 
 abbrev pub invariant-loop-i : goal.invariant-loop-i

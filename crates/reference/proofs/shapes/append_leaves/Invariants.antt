@@ -1,3 +1,5 @@
+-- `reference::shapes::append_leaves` is safe and ends.
+use Rattle.std.proofs.Common.{◌-◌}
 use Rattle.reference.proofs.shapes.append_leaves.Given as goal
 
 abbrev pub invariant-loop-i : goal.invariant-loop-i

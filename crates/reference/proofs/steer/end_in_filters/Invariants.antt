@@ -1,3 +1,5 @@
+-- `reference::steer::end_in_filters` is safe and ends.
+use Rattle.std.proofs.Common.{◌-◌}
 use Rattle.reference.proofs.steer.end_in_filters.Given as goal
 
 abbrev pub invariant-loop-i : goal.invariant-loop-i

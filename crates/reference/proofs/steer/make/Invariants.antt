@@ -1,3 +1,5 @@
+-- `reference::steer::make` is safe and ends.
+use Rattle.std.proofs.Common.{◌-◌}
 use Rattle.reference.proofs.steer.make.Given as goal
 
 abbrev pub invariant-loop-i : goal.invariant-loop-i

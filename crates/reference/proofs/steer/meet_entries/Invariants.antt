@@ -1,3 +1,5 @@
+-- `reference::steer::meet_entries` is safe and ends.
+use Rattle.std.proofs.Common.{◌-◌}
 use Rattle.reference.proofs.steer.meet_entries.Given as goal
 
 abbrev pub invariant-loop-e : goal.invariant-loop-e

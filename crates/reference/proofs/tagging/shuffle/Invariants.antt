@@ -1,3 +1,5 @@
+-- `reference::tagging::shuffle` is safe and ends.
+use Rattle.std.proofs.Common.{◌-◌}
 use Rattle.reference.proofs.tagging.shuffle.Given as goal
 
 abbrev pub invariant-loop-x : goal.invariant-loop-x

@@ -1,3 +1,5 @@
+-- `texts::damage::find` is safe and ends.
+use Rattle.std.proofs.Common.{◌-◌}
 use Rattle.texts.proofs.damage.find.Given as goal
 
 abbrev pub invariant-loop-place : goal.invariant-loop-place

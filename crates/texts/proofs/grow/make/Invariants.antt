@@ -1,3 +1,5 @@
+-- `texts::grow::make` is safe and ends.
+use Rattle.std.proofs.Common.{◌-◌}
 use Rattle.texts.proofs.grow.make.Given as goal
 
 abbrev pub invariant-loop-i : goal.invariant-loop-i

@@ -1,3 +1,4 @@
+-- `texts::grow::push` is safe and ends.
 use Rattle.texts.proofs.grow.push.Given as goal
 
 abbrev pub invariant-loop-left : goal.invariant-loop-left

@@ -1,3 +1,5 @@
+-- `texts::vocabulary::fill` is safe and ends.
+use Rattle.std.proofs.Common.{◌-◌}
 use Rattle.texts.proofs.vocabulary.fill.Given as goal
 
 abbrev pub invariant-loop-i : goal.invariant-loop-i

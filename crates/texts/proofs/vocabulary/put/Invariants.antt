@@ -1,3 +1,5 @@
+-- `texts::vocabulary::put` is safe and ends.
+use Rattle.std.proofs.Common.{◌-◌}
 use Rattle.texts.proofs.vocabulary.put.Given as goal
 
 abbrev pub invariant-loop-k : goal.invariant-loop-k

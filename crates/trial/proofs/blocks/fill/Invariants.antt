@@ -1,3 +1,5 @@
+-- `trial::blocks::fill` is safe and ends.
+use Rattle.std.proofs.Common.{◌-◌}
 use Rattle.trial.proofs.blocks.fill.Given as goal
 
 abbrev pub invariant-loop-e : goal.invariant-loop-e

@@ -1,3 +1,5 @@
+-- `trial::blocks::is_empty` is safe and ends.
+use Rattle.std.proofs.Common.{◌-◌}
 use Rattle.trial.proofs.blocks.is_empty.Given as goal
 
 abbrev pub invariant-loop-i : goal.invariant-loop-i

@@ -1,3 +1,4 @@
+-- `trial::blocks::is_some_left_out` is safe and ends.
 use Rattle.trial.proofs.blocks.is_some_left_out.Given as goal
 
 abbrev pub invariant-loop-i : goal.invariant-loop-i

@@ -1,3 +1,5 @@
+-- `trial::blocks::rows_after` is safe and ends.
+use Rattle.std.proofs.Common.{◌-◌}
 use Rattle.trial.proofs.blocks.rows_after.Given as goal
 
 abbrev pub invariant-loop-i : goal.invariant-loop-i

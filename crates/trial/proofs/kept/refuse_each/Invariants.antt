@@ -1,3 +1,5 @@
+-- `trial::kept::refuse_each` is safe and ends.
+use Rattle.std.proofs.Common.{◌-◌}
 use Rattle.trial.proofs.kept.refuse_each.Given as goal
 
 abbrev pub invariant-loop-i : goal.invariant-loop-i

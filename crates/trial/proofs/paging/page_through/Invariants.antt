@@ -1,3 +1,5 @@
+-- `trial::paging::page_through` is safe and ends.
+use Rattle.std.proofs.Common.{◌-◌}
 use Rattle.trial.proofs.paging.page_through.Given as goal
 
 abbrev pub invariant-loop-i : goal.invariant-loop-i

@@ -1,3 +1,5 @@
+-- `trial::paging::page_through_from_start` is safe and ends.
+use Rattle.std.proofs.Common.{◌-◌}
 use Rattle.trial.proofs.paging.page_through_from_start.Given as goal
 
 abbrev pub invariant-loop-most : goal.invariant-loop-most

@@ -1,3 +1,5 @@
+-- `trial::run::run_all` is safe and ends.
+use Rattle.std.proofs.Common.{◌-◌, length}
 use Rattle.trial.proofs.run.run_all.Given as goal
 
 abbrev pub invariant-loop-at : goal.invariant-loop-at

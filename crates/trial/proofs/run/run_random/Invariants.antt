@@ -1,3 +1,5 @@
+-- `trial::run::run_random` is safe and ends.
+use Rattle.std.proofs.Common.{◌-◌}
 use Rattle.trial.proofs.run.run_random.Given as goal
 
 abbrev pub invariant-loop-i : goal.invariant-loop-i

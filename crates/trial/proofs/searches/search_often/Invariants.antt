@@ -1,3 +1,5 @@
+-- `trial::searches::search_often` is safe and ends.
+use Rattle.std.proofs.Common.{◌-◌}
 use Rattle.trial.proofs.searches.search_often.Given as goal
 
 abbrev pub invariant-loop-i : goal.invariant-loop-i

@@ -1,3 +1,4 @@
+-- `trial::sparse::add_parts` is safe and ends.
 use Rattle.trial.proofs.sparse.add_parts.Given as goal
 
 abbrev pub invariant-loop-left : goal.invariant-loop-left

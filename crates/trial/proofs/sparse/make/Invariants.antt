@@ -1,3 +1,5 @@
+-- `trial::sparse::make` is safe and ends.
+use Rattle.std.proofs.Common.{◌-◌}
 use Rattle.trial.proofs.sparse.make.Given as goal
 
 abbrev pub invariant-loop-i : goal.invariant-loop-i

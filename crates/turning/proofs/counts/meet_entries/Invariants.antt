@@ -1,3 +1,5 @@
+-- `turning::counts::meet_entries` is safe and ends.
+use Rattle.std.proofs.Common.{◌-◌}
 use Rattle.turning.proofs.counts.meet_entries.Given as goal
 
 abbrev pub invariant-loop-e : goal.invariant-loop-e

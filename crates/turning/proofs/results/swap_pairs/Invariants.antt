@@ -1,3 +1,5 @@
+-- `turning::results::swap_pairs` is safe and ends.
+use Rattle.std.proofs.Common.{◌-◌}
 use Rattle.turning.proofs.results.swap_pairs.Given as goal
 
 abbrev pub invariant-loop-at : goal.invariant-loop-at

@@ -1,3 +1,5 @@
+-- `turning::run::run_times` is safe and ends.
+use Rattle.std.proofs.Common.{◌-◌}
 use Rattle.turning.proofs.run.run_times.Given as goal
 
 abbrev pub invariant-loop-i : goal.invariant-loop-i

@@ -1,3 +1,5 @@
+-- `typing::call::same_numbers` is safe and ends.
+use Rattle.std.proofs.Common.{◌-◌}
 use Rattle.typing.proofs.call.same_numbers.Given as goal
 
 abbrev pub invariant-loop-at : goal.invariant-loop-at

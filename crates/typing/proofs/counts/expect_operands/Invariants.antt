@@ -1,3 +1,5 @@
+-- `typing::counts::expect_operands` is safe and ends.
+use Rattle.std.proofs.Common.{◌-◌}
 use Rattle.typing.proofs.counts.expect_operands.Given as goal
 
 abbrev pub invariant-loop-kind : goal.invariant-loop-kind

@@ -1,3 +1,5 @@
+-- `typing::counts::show_all` is safe and ends.
+use Rattle.std.proofs.Common.{◌-◌}
 use Rattle.typing.proofs.counts.show_all.Given as goal
 
 abbrev pub invariant-loop-number : goal.invariant-loop-number

@@ -1,3 +1,5 @@
+-- `typing::fixed::copy` is safe and ends.
+use Rattle.std.proofs.Common.{◌-◌}
 use Rattle.typing.proofs.fixed.copy.Given as goal
 
 abbrev pub invariant-loop-k : goal.invariant-loop-k

@@ -1,3 +1,5 @@
+-- `typing::fixed::copy_names` is safe and ends.
+use Rattle.std.proofs.Common.{◌-◌, length}
 use Rattle.typing.proofs.fixed.copy_names.Given as goal
 
 abbrev pub invariant-loop-k : goal.invariant-loop-k

@@ -1,3 +1,5 @@
+-- `typing::fixed::copy_table` is safe and ends.
+use Rattle.std.proofs.Common.{◌-◌}
 use Rattle.typing.proofs.fixed.copy_table.Given as goal
 
 abbrev pub invariant-loop-k : goal.invariant-loop-k

@@ -1,3 +1,5 @@
+-- `typing::fixed::fill_short` is safe and ends.
+use Rattle.std.proofs.Common.{◌-◌}
 use Rattle.typing.proofs.fixed.fill_short.Given as goal
 
 abbrev pub invariant-loop-k : goal.invariant-loop-k

@@ -1,3 +1,5 @@
+-- `typing::fixed::run_unfinished` is safe and ends.
+use Rattle.std.proofs.Common.{◌-◌}
 use Rattle.typing.proofs.fixed.run_unfinished.Given as goal
 
 abbrev pub invariant-loop-length : goal.invariant-loop-length

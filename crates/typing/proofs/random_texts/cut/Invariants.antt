@@ -1,3 +1,5 @@
+-- `typing::random_texts::cut` is safe and ends.
+use Rattle.std.proofs.Common.{◌-◌}
 use Rattle.typing.proofs.random_texts.cut.Given as goal
 
 abbrev pub invariant-loop-length : goal.invariant-loop-length

@@ -1,3 +1,5 @@
+-- `typing::random_texts::damage_often` is safe and ends.
+use Rattle.std.proofs.Common.{◌-◌}
 use Rattle.typing.proofs.random_texts.damage_often.Given as goal
 
 abbrev pub invariant-loop-i : goal.invariant-loop-i

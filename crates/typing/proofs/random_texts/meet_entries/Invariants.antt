@@ -1,3 +1,5 @@
+-- `typing::random_texts::meet_entries` is safe and ends.
+use Rattle.std.proofs.Common.{◌-◌}
 use Rattle.typing.proofs.random_texts.meet_entries.Given as goal
 
 abbrev pub invariant-loop-e : goal.invariant-loop-e

@@ -1,3 +1,5 @@
+-- `typing::random_texts::run` is safe and ends.
+use Rattle.std.proofs.Common.{◌-◌}
 use Rattle.typing.proofs.random_texts.run.Given as goal
 
 abbrev pub invariant-loop-i : goal.invariant-loop-i

@@ -1,3 +1,4 @@
+-- `typing::run::run_all` is safe and ends.
 use Rattle.typing.proofs.run.run_all.Given as goal
 
 abbrev pub invariant-loop-left : goal.invariant-loop-left
