@@ -3,6 +3,8 @@
 // evaluation of what the variables decide of the query; what stands before and behind that is evaluated once a call for all rows (crate
 // `narrowing`). Behind a row that is no answer, whole blocks of rows are left out in which the query cannot hold (module `blocks`). At
 // worst, where no block is left out, n to the power of the number of variables rows are tried.
+#![tactic(auto)]
+
 mod blocks;
 mod next;
 mod rows;

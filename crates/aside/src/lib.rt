@@ -1,5 +1,7 @@
 // How many tables the evaluation over bits keeps aside for each entry of a query: the operand that needs more is evaluated first, so
 // that five are enough for 64 entries (proofs/Five.antt).
+#![tactic(auto)]
+
 ghost use Rattle.std.specs.Prelude.{◌≡◌, ◌≤◌, ◌<◌, max};
 ghost use Rattle.model.specs.QueryTable.{entries_of};
 ghost use Rattle.model.specs.Accepted.{Formed};

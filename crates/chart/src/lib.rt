@@ -1,6 +1,8 @@
 // A recogniser of typed queries by a chart, straight from the grammar, for texts of at most 63 bytes. For each symbol of the
 // grammar and each place of the text it has all places where a text of that symbol which starts there ends, and all up to
 // which such a text has come or may have come, if other bytes follow. The test program holds the reader against it.
+#![tactic(auto)]
+
 pub mod rules;
 pub mod spans;
 pub mod words;

@@ -1,5 +1,7 @@
 // What the services check of all that they are lent: refusals 8 to 20, in their order, over a tree that has passed 5 to 7. Each check is
 // one pass, so that all of it is linear in what is lent.
+#![tactic(auto)]
+
 ghost use Rattle.std.specs.Prelude.{◌≡◌, cond, ◌++◌, ◌*◌, ◌≤◌, ◌<◌, length};
 ghost use Rattle.model.specs.Sets.{any};
 ghost use Rattle.model.specs.Tree.{size_of};

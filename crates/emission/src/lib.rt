@@ -1,4 +1,6 @@
 // What each turn of the reading writes.
+#![tactic(auto)]
+
 ghost use Rattle.std.specs.Prelude.{◌≡◌, [], ◌∷◌, ◌≤◌, ◌<◌, length};
 ghost use Rattle.machine.specs.Machine.{pops, sort, stack_of};
 ghost use Rattle.entries.specs.Postfix.{made, Sound, Wrote};

@@ -1,4 +1,6 @@
 // Query tables made entry by entry, in postfix order.
+#![tactic(auto)]
+
 ghost use Rattle.std.specs.Prelude.{◌≡◌, cond, [], ◌∷◌, ◌+◌, ◌-◌, ◌*◌, ◌≤◌, ◌<◌, suc, max, length};
 ghost use Rattle.model.specs.Kinds.{names_variable};
 ghost use Rattle.model.specs.Encoding.{entry4};

@@ -8,6 +8,8 @@
 //
 // Each evaluation tells how many nodes its result has, in a number that it is lent: a set is counted where it is made, and one that
 // is handed on keeps its count. What an operand tells is overwritten.
+#![tactic(auto)]
+
 ghost use Rattle.std.specs.Prelude.{◌≡◌, true, false, cond, ◌≤◌, ◌<◌, length};
 ghost use Rattle.model.specs.Sets.{tab, ones, memb, upto, turn, image};
 ghost use Rattle.model.specs.Results.{assigned};

@@ -1,4 +1,6 @@
 // The grammar of typed queries (document 02, §1): its definitions are in specs/, the theorems about them in proofs/.
+#![tactic(auto)]
+
 ghost use Rattle.std.specs.Prelude.{◌≡◌};
 ghost use Rattle.grammar.specs.Grammar.{elem, name_bytes};
 

@@ -1,5 +1,7 @@
 // Evaluation over an accepted tree: the nodes that a set reaches by a query or that reach it, and the relation table of all pairs. All else
 // that is malformed is refused, and then the buffer is left as it was.
+#![tactic(auto)]
+
 mod rows;
 mod write;
 

@@ -1,5 +1,7 @@
 // The index of an accepted tree: for each node the next later node of its tag, and the list of the tags present. Where a buffer has too
 // little room both are left as they were.
+#![tactic(auto)]
+
 mod links;
 mod order;
 

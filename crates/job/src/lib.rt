@@ -1,4 +1,6 @@
 // The job file: its trailer and its parts, refusals 1 to 4, and its numbers.
+#![tactic(auto)]
+
 ghost use Rattle.std.specs.Prelude.{◌≡◌, ◌++◌, ◌+◌, ◌*◌, ◌≤◌, ◌<◌, false, length, drop};
 ghost use Rattle.model.specs.Refusals.{verdict};
 ghost use Rattle.job.specs.JobFile.{number_at, numbers, pointer_at, magic_of, trailer_size, party_of, trailer_at, trailer_of, bad_length, span_of, end_of, outside, overlap, part_checks, file_checks, job_of, widened, Fronts};

@@ -1,4 +1,6 @@
 // The program's lines of output, written into a buffer from a place on. Each function gives the place after what it wrote.
+#![tactic(auto)]
+
 ghost use Rattle.std.specs.Prelude.{◌≡◌, cond, [], ◌∷◌, ◌+◌, ◌*◌, ◌≤◌, ◌<◌, length};
 ghost use Rattle.lines.specs.Lines.{decimal, field, row_line, row_lines, end_line, refused_line, Wrote};
 

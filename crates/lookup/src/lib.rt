@@ -1,5 +1,7 @@
 // The descendants of a node of an accepted tree that have a tag, found by following an index. All else that is malformed is refused, the
 // index as far as the chain reads it, and then the buffer is left as it was.
+#![tactic(auto)]
+
 ghost use Rattle.std.specs.Prelude.{◌≡◌, ◌<◌, suc, length};
 ghost use Rattle.model.specs.Tree.{tree_of, size_of};
 ghost use Rattle.model.specs.Axes.{following};

@@ -1,4 +1,6 @@
 // The reading of a typed query, turn by turn: a focus, and a stack of gaps that are still open.
+#![tactic(auto)]
+
 ghost use Rattle.std.specs.Prelude.{◌≡◌, cond, ltb, ◌+◌, ◌-◌, ◌*◌, ◌≤◌, ◌<◌, length, drop, set};
 ghost use Rattle.machine.specs.Machine.{takes, slashes, binds, pops, sort, top, stack_of, letter_focus, want_may, want_move, slash_move, have_flags, have_may, bracket_focus, close_move, join_move, have_move, want_turn, letter_turn, axis_turn, have_turn, turn_of, may_end};
 

@@ -1,4 +1,6 @@
 // The types that every layer shares. What a reader must believe of the engine is in specs/.
+#![tactic(auto)]
+
 ghost use Rattle.std.specs.Prelude.{◌≡◌, ◌++◌, ◌≤◌, ◌<◌, length, take, drop};
 ghost use Rattle.model.specs.Refusals.{reply, counting, making};
 

@@ -2,6 +2,8 @@
 // the previous sibling. Column y of the table is the set of the nodes with a pair to y. The step takes each column to its image under
 // the step's converse, as crate steps does it for one node set; here a pass moves all columns at once. Every function here takes O(n)
 // turns, of a row of four words each.
+#![tactic(auto)]
+
 mod pass;
 mod row;
 

@@ -1,5 +1,7 @@
 // Tag names: the check of a name request, the name as a part of the table that holds it, and the tag of a name.
 // Each call reads a table's length bytes at most twice, so the time is linear in the tables' lengths.
+#![tactic(auto)]
+
 ghost use Rattle.std.specs.Prelude.{◌≡◌, ◌≤◌, ◌<◌, length, take, drop};
 ghost use Rattle.model.specs.Refusals.{verdict};
 ghost use Rattle.names.specs.Names.{malformed, names, by_tag, name_table_checks, name_checks, part_for, IsPart, found, Decided};

@@ -4,6 +4,8 @@
 // What it costs: `narrow` asks for no entry more than once, which comes to about one evaluation of the query at most. A row is then one
 // evaluation of the core; where no variable stands in the query, there is no core, and the two sets are compared. `whole`, which
 // the caller decides, says which engine evaluates.
+#![tactic(auto)]
+
 ghost use Rattle.std.specs.Prelude.{◌≡◌, true, false, ◌≤◌, length, take};
 ghost use Rattle.model.specs.Tree.{size_of};
 ghost use Rattle.model.specs.QueryTable.{kind};

@@ -8,6 +8,8 @@
 // are cheaper for it, ten times at 256 nodes: it counts for two.
 //
 // Cost: one pass, a few operations an entry.
+#![tactic(auto)]
+
 ghost use Rattle.std.specs.Prelude.{◌≡◌, ◌+◌, ◌≤◌, ◌<◌, min};
 ghost use Rattle.model.specs.QueryTable.{entries_of};
 ghost use Rattle.model.specs.Accepted.{Formed};

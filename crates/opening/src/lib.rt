@@ -1,4 +1,6 @@
 // A query table whose variables from one on stand for any node. The evaluator takes it as it takes any query.
+#![tactic(auto)]
+
 ghost use Rattle.std.specs.Prelude.{◌≡◌, ◌<◌, length};
 ghost use Rattle.model.specs.Accepted.{Shaped};
 ghost use Rattle.opening.specs.Opening.{node_step, stand_in, moved, moved_entry, opened_entry, Narrow, Stored, Front, Opens};

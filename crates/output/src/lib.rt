@@ -1,5 +1,7 @@
 // What the program prints for a job file, piece by piece, as bytes in a buffer that the caller lends: refusals, rows and the line
 // after them. A piece of rows is one page of answers, and each call opens and checks the file anew.
+#![tactic(auto)]
+
 ghost use Rattle.std.specs.Prelude.{◌≡◌, ◌≤◌, length};
 ghost use Rattle.model.specs.Accepted.{AcceptedTree};
 ghost use Rattle.job.specs.JobFile.{end_of, Fronts};

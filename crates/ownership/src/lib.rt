@@ -1,5 +1,7 @@
 // The check of the tree table that two parties share (refusals 5 to 7 and 30), and of the party that asks (31). All of it takes time
 // linear in the table's length.
+#![tactic(auto)]
+
 ghost use Rattle.std.specs.Prelude.{◌≡◌, false, ◌<◌, ◌/◌, length};
 ghost use Rattle.model.specs.Sets.{any};
 ghost use Rattle.model.specs.Axes.{descendant_or_self};

@@ -1,5 +1,7 @@
 // A relation's table of bytes as its table of bits, and back. Neither service has a precondition: what is malformed is refused, and
 // then the buffer is left as it was.
+#![tactic(auto)]
+
 pub mod convert;
 mod refusal;
 

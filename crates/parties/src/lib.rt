@@ -1,6 +1,8 @@
 // The services that are lent a shared table and a party: each looks at the table for the party, and runs on the tree that the party sees.
 // None has a precondition: what is malformed is refused, and then nothing that was lent is altered. The look costs one pass over the
 // parents, one over tags and owners and one that writes the tree, whatever the service; all else is the service's own cost.
+#![tactic(auto)]
+
 ghost use Rattle.std.specs.Prelude.{true, false};
 ghost use Rattle.model.specs.Services.{Leaves, seen_image, seen_pairs, seen_page, PageLeaves};
 ghost use Rattle.parties.specs.Services.{seen_bits, seen_index, seen_lookup, SeenQuickLeaves, BothLeave};

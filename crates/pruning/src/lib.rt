@@ -6,6 +6,8 @@
 // variable decides: it is the same for every row, so that a page evaluates it once (proofs/Fixed.antt: fixed_pairs, fixed_holds).
 //
 // What it costs: a few operations an entry, in one pass over the table or two, where an evaluation makes a set or a table for each entry.
+#![tactic(auto)]
+
 ghost use Rattle.std.specs.Prelude.{◌≡◌, cond, ◌+◌, ◌≤◌, ◌<◌, get_or};
 ghost use Rattle.model.specs.QueryTable.{entries_of, last_of};
 ghost use Rattle.model.specs.Accepted.{Formed};

@@ -1,5 +1,7 @@
 // The check of a query table, refusals 8 to 15. Each check is one pass over the entries, so all of it is linear in the
 // table's length.
+#![tactic(auto)]
+
 ghost use Rattle.std.specs.Prelude.{◌≡◌, ◌*◌, ◌≤◌, ◌<◌, get_or};
 ghost use Rattle.model.specs.QueryTable.{entries_of, kind, entry, last_of};
 ghost use Rattle.model.specs.Refusals.{lowest, verdict};

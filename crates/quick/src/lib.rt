@@ -2,6 +2,8 @@
 // variable: with the later variables standing for any node, one evaluation tells whether some answer begins so. At most 6 × n
 // evaluations for each row written, and as many to tell whether there is one more. `whole` says by which engine: it is decided once a
 // call, since an opened query nests as the query does.
+#![tactic(auto)]
+
 ghost use Rattle.std.specs.Prelude.{◌≡◌, true, ◌≤◌, ◌<◌, take};
 ghost use Rattle.model.specs.Tree.{size_of};
 ghost use Rattle.model.specs.Pages.{row_of, has_begun};

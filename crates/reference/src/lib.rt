@@ -2,6 +2,8 @@
 // of a path and `same`, document 02: pairs, images, answers, and the pages that are due; from document 02 the index of a tree and what is
 // found by one, relations as bits, the reversed query, the rule of quick pages with the evaluations that they make, and what a party sees
 // of a shared table; the random trees, owners, queries and sets that the engine is tried on; and what is refused instead of them.
+#![tactic(auto)]
+
 pub mod bearing;
 pub mod bit_damage;
 pub mod bit_tables;

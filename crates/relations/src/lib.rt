@@ -1,5 +1,7 @@
 // The second engine: a query's pairs as a table of bits, made by operations on whole tables. The tree is an accepted one;
 // all else that is malformed is refused, and then the buffer is left as it was.
+#![tactic(auto)]
+
 pub mod table;
 pub mod write;
 

@@ -3,6 +3,8 @@
 //
 // Cost: the check, and then each entry of the query is read once and makes at most eight, a few operations each. Functions call
 // themselves as deep as the query nests.
+#![tactic(auto)]
+
 ghost use Rattle.std.specs.Prelude.{◌≡◌, cond, true, ◌≤◌, ◌<◌, length};
 ghost use Rattle.model.specs.Syntax.Path.{step, variable};
 ghost use Rattle.model.specs.QueryTable.{entries_of, kind, last_of};

@@ -1,6 +1,8 @@
 // Node sets by value: 256 bytes, each 0 or 1, and 0 for every number that is no node.
 // Each function makes at most one pass over the bytes, O(n) or 256 steps, with no branch on a byte: the passes compile to
 // vector code.
+#![tactic(auto)]
+
 ghost use Rattle.std.specs.Prelude.{◌≡◌, true, ◌++◌, ◌≤◌, ◌<◌, length, drop};
 ghost use Rattle.model.specs.Sets.{any, bit, tab, ones, memb, upto};
 ghost use Rattle.sets.specs.NodeSets.{always, only, combine, combination, shifted};

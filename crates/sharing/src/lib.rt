@@ -1,5 +1,7 @@
 // Refusal 29: the check of the rule of source document 004, that no variable is shared where it must not be. Three passes over the
 // entries to find where each variable stands, and one more: linear in the table's length.
+#![tactic(auto)]
+
 ghost use Rattle.std.specs.Prelude.{◌≡◌, ◌<◌};
 ghost use Rattle.model.specs.Sets.{memb};
 ghost use Rattle.model.specs.QueryTable.{entries_of};

@@ -1,6 +1,8 @@
 // The image of a node set under a step, for every axis by a fixed number of passes along two links: the parent, and the
 // previous sibling. A link is a lower number than its node's, so that one pass serves for any number of hops too.
 // Every function here is O(n).
+#![tactic(auto)]
+
 ghost use Rattle.std.specs.Prelude.{◌≡◌, true, ◌*◌, ◌≤◌, ◌<◌, length, eqb};
 ghost use Rattle.model.specs.Sets.{tab, ones, memb, upto, turn, image};
 ghost use Rattle.model.specs.Tree.{tree_of, size_of};

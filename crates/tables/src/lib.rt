@@ -1,5 +1,7 @@
 // Operations on whole tables of bits. A table of n rows, four words each, stands at the front of a slice of words; the result takes
 // the place of the table at hand, and the words behind it stay.
+#![tactic(auto)]
+
 mod closure;
 mod product;
 pub mod row;

@@ -1,5 +1,7 @@
 // Everything that a terminal calls, under C names: include/geznauri.h describes it. Each function is a thin form of one
 // service, and its contract is that service's; gz_name is the name and the reply of one request in one.
+#![tactic(auto)]
+
 ghost use Rattle.std.specs.Prelude.{◌≡◌, true, false};
 ghost use Rattle.model.specs.Refusals.{verdict};
 ghost use Rattle.model.specs.Checks.{query_checks};

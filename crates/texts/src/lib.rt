@@ -1,4 +1,6 @@
 // Random typed queries, each with the table that is due; vocabularies for them; and damage to a text.
+#![tactic(auto)]
+
 pub mod damage;
 pub mod grow;
 pub mod productions;

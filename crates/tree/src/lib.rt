@@ -1,5 +1,7 @@
 // The numbers of a node in a tree table of two numbers a node, and the links that evaluation walks beside the parents, in time linear in
 // the table's length.
+#![tactic(auto)]
+
 ghost use Rattle.std.specs.Prelude.{◌≡◌, ◌<◌};
 ghost use Rattle.model.specs.Tree.{tree_of, size_of};
 ghost use Rattle.model.specs.Accepted.{Sound};

@@ -1,5 +1,7 @@
 // The test program. It runs the checks that its standard input lists, one to a line, and writes how many comparisons each
 // part made and how many of them failed; a comparison that fails has a line of its own. The input says what a line holds.
+#![tactic(auto)]
+
 mod bit_pairs;
 mod blocks;
 mod call;

@@ -1,5 +1,7 @@
 // The test program of the reversed query. It runs the checks that its standard input lists, one to a line, and writes how many
 // comparisons each part made and how many of them failed. The input says what a line holds.
+#![tactic(auto)]
+
 mod calls;
 mod counts;
 mod queries;

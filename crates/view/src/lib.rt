@@ -1,5 +1,7 @@
 // The tree that a party sees of a shared table, as a table of two numbers a node: what every service runs on that is lent a shared table
 // and a party. The check and the making of it take time linear in the table's length.
+#![tactic(auto)]
+
 ghost use Rattle.std.specs.Prelude.{◌≡◌, cond, ◌||◌, ◌≤◌, length, eqb};
 ghost use Rattle.model.specs.Sets.{bit};
 ghost use Rattle.model.specs.Services.{Leaves};

@@ -1,4 +1,6 @@
 // The words of the grammar, looked for at a place of a text.
+#![tactic(auto)]
+
 ghost use Rattle.std.specs.Prelude.{◌≡◌, cond, ◌+◌, ◌-◌, ◌*◌, ◌≤◌, ◌<◌, length, take, drop};
 ghost use Rattle.words.specs.Words.{common, slot, greater, scan_from, word_table};
 
