@@ -132,7 +132,7 @@ pub path-ends-to-requires : goal.path-ends-to-requires
 path-ends-to-requires t c = let p = c.requires in let f = c.entry_at-f.ensures.0 in let k = kind_at f in let x = known_path f p.1.0 p.1.1.within p.1.1.sort c.if-k-eq13.false in (omega arith, (p.1.0, omega arith))
 
 pub path-ending_image-requires : goal.path-ending_image-requires
-path-ending_image-requires t c = search (row_below, rules, c.requires.1.0)
+path-ending_image-requires t c = search (row_below, rules, c.requires.0)
 
 pub path-returns : goal.path-returns
 path-returns t c = let p = c.requires in let f = c.entry_at-f.ensures.0 in let k = kind_at f in let x = known_path f p.1.0 p.1.1.within p.1.1.sort c.if-k-eq13.false in (did_ending f p.1.0 p.1.1.within _ _ _ _ c.ending_image.ensures.0 c.ends-to.ensures.0 (omega arith) (omega arith), c.ending_image.ensures.1)

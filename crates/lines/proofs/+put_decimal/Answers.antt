@@ -10,7 +10,7 @@ pub returns-then-n-lt10 : goal.returns-then-n-lt10
 returns-then-n-lt10 t c = search (wrote_digit, rules)
 
 pub put_decimal-next-requires : goal.put_decimal-next-requires
-put_decimal-next-requires t c = (omega (arith, c.requires.0), search (rest_fits, rules))
+put_decimal-next-requires t c = (omega arith, search (rest_fits, rules))
 
 pub put_byte-requires-2 : goal.put_byte-requires-2
 put_byte-requires-2 t c = search (digit_fits_last, rules)
