@@ -1,6 +1,5 @@
 use Rattle.machine.specs.Machine.{stack_of}
 use Rattle.emission.proofs.Writing.{closing_items_lem}
-use borrow.Author.Rules.{rules}
 use Rattle.emission.proofs.put_closing.Goals as goal
 
 pub returns : goal.returns
