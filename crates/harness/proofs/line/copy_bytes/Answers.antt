@@ -1,4 +1,4 @@
-use Rattle.std.proofs.Common.{◌-◌, refl, arith}
+use Rattle.std.proofs.Common.{refl, arith}
 use Rattle.harness.proofs.line.copy_bytes.Goals as goal
 
 pub loop-k-init : goal.loop-k-init
