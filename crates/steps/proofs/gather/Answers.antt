@@ -1,4 +1,3 @@
-use Prim.Native.Nat.{◌-◌}
 use native.Mathlib.Omega.{arith}
 use mathlib.Core.Path.{◌∙◌}
 use Rattle.model.specs.Sets.{memb, image}
@@ -12,10 +11,13 @@ loop-y-init c = (omega arith, fill_start 256 _)
 
 pub loop-y-preserved : goal.loop-y-preserved
 unfolding memb
-loop-y-preserved c = (omega arith, elim c.if-p-y.branch [
-  then-p-y w ↦ w.r-is ∙ gather_store _ _ _ _ _ _ _ c.loop-y.invariant.1 c.wide-p.ensures.0 c.loop-y-test.true _ w.if-p-y.true (omega arith) w.byte.ensures
-  | else-p-y w ↦ w.r-is ∙ gather_skip _ _ _ _ _ _ _ c.loop-y.invariant.1 c.wide-p.ensures.0 c.loop-y-test.true w.if-p-y.false
-])
+loop-y-preserved c = (
+  omega arith,
+  elim c.if-p-y.branch [
+    | then-p-y w ↦ w.r-is ∙ gather_store _ _ _ _ _ _ _ c.loop-y.invariant.1 c.wide-p.ensures.0 c.loop-y-test.true _ w.if-p-y.true (omega arith) w.byte.ensures
+    | else-p-y w ↦ w.r-is ∙ gather_skip _ _ _ _ _ _ _ c.loop-y.invariant.1 c.wide-p.ensures.0 c.loop-y-test.true w.if-p-y.false
+  ],
+)
 
 pub returns : goal.returns
 unfolding image reach gathered
