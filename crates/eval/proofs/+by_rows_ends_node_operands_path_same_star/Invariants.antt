@@ -31,20 +31,20 @@ decreases-same l = 3 * l.e
 abbrev pub decreases-star : goal.decreases-star
 decreases-star l = 3 * l.e
 
-abbrev pub by_rows-invariant-loop-x : goal.by_rows-invariant-loop-x
-by_rows-invariant-loop-x l = (l.x ≤ l.n) × ((l.n ≡ size_of l.tree) × (l.found ≡ part l.tree l.query l.nodes l.e l.back l.from l.x))
+abbrev pub invariant-by_rows-loop-x : goal.invariant-by_rows-loop-x
+invariant-by_rows-loop-x l = (l.x ≤ l.n) × ((l.n ≡ size_of l.tree) × (l.found ≡ part l.tree l.query l.nodes l.e l.back l.from l.x))
 
-abbrev pub by_rows-decreases-loop-x : goal.by_rows-decreases-loop-x
-by_rows-decreases-loop-x l = l.n - l.x
+abbrev pub decreases-by_rows-loop-x : goal.decreases-by_rows-loop-x
+decreases-by_rows-loop-x l = l.n - l.x
 
-abbrev pub same-invariant-loop-x : goal.same-invariant-loop-x
-same-invariant-loop-x l = (l.x ≤ l.n) × ((l.n ≡ size_of l.tree) × (l.starts ≡ tab 256 (upto l.x (passing l.tree l.query l.nodes l.e))))
+abbrev pub invariant-same-loop-x : goal.invariant-same-loop-x
+invariant-same-loop-x l = (l.x ≤ l.n) × ((l.n ≡ size_of l.tree) × (l.starts ≡ tab 256 (upto l.x (passing l.tree l.query l.nodes l.e))))
 
-abbrev pub same-decreases-loop-x : goal.same-decreases-loop-x
-same-decreases-loop-x l = l.n - l.x
+abbrev pub decreases-same-loop-x : goal.decreases-same-loop-x
+decreases-same-loop-x l = l.n - l.x
 
-abbrev pub star-invariant-loop-fresh : goal.star-invariant-loop-fresh
-star-invariant-loop-fresh l = (l.n ≡ size_of l.tree) × Growing (size_of l.tree) (related l.tree l.query l.nodes l.l l.back) l.initial.known l.known l.last
+abbrev pub invariant-star-loop-fresh : goal.invariant-star-loop-fresh
+invariant-star-loop-fresh l = (l.n ≡ size_of l.tree) × Growing (size_of l.tree) (related l.tree l.query l.nodes l.l l.back) l.initial.known l.known l.last
 
-abbrev pub star-decreases-loop-fresh : goal.star-decreases-loop-fresh
-star-decreases-loop-fresh l = missing (size_of l.tree) l.known
+abbrev pub decreases-star-loop-fresh : goal.decreases-star-loop-fresh
+decreases-star-loop-fresh l = missing (size_of l.tree) l.known

@@ -12,7 +12,7 @@ returns-then-v-ne0 c = table_refused _ _ _ _ _ c.read_text-r.ensures _ _ (search
 
 -- src/lib.rt:342:5
 pub copy-requires : goal.copy-requires
-copy-requires c = (let h : c.read_text-r.result.draft.entries ≤ 64 = search (entries_fit, rules) in let l : length c.read_text-r.new.1.1.1.0 ≡ 256 = search rules in omega arith, search (table_fits, rules))
+copy-requires c = (let h : c.read_text-r.result.draft.entries ≤ 64 = search (entries_fit, rules) in let l : length c.read_text-r.new.table ≡ 256 = search rules in omega arith, search (table_fits, rules))
 
 -- src/lib.rt:347:18
 pub overflow_cast-result : goal.overflow_cast-result
