@@ -12,7 +12,7 @@ use Rattle.model.specs.declared.Cursor.{Cursor}
 use Rattle.model.specs.declared.Reply.{Reply}
 use Rattle.model.specs.Tree.{tree_of, size_of}
 use Rattle.model.specs.QueryTable.{entries_of}
-use Rattle.model.specs.Refusals.{verdict, reply}
+use Rattle.model.specs.Refusals.{verdict}
 use Rattle.model.specs.Checks.{bad_node, tree_checks, query_checks, cursor_checks, room_checks, page_checks, quick_checks}
 use Rattle.model.specs.Accepted.{Ordered, Below, Shaped}
 use Rattle.model.specs.Answers.{answers}

@@ -4,18 +4,18 @@ use native.Mathlib.Nat.{eq-or-lt_of_le}
 use native.Mathlib.Omega.{arith}
 use mathlib.Core.Path.{◌≡◌, sym, ap, ◌∙◌}
 use mathlib.Core.Logic.{⊎_elim}
-use mathlib.Core.Bool.{Bool, true, false, cond, ◌&&◌, ◌||◌}
+use mathlib.Core.Bool.{Bool, true, false, cond, ◌||◌}
 use mathlib.Core.List.{List}
 use lib.ListN.{length}
 use lib.Dec.{ltb, eqb}
 use borrow.Author.Tests.{lt-ltb, ltb-true, ltb-false, eq-eqb, eqb-true, eqb-false}
 use Rattle.model.specs.declared.Entry.{Entry}
 use Rattle.model.specs.Tree.{size_of}
-use Rattle.model.specs.QueryTable.{kind, left, right, entry, entries_of}
+use Rattle.model.specs.QueryTable.{kind, entry, entries_of}
 use Rattle.model.specs.Kinds.{is_path, left_path, left_expr, right_path, right_expr, names_variable}
 use Rattle.model.specs.Results.{assigned}
 use Rattle.model.proofs.Booleans.{both_yes, or_left, or_right, or_cases, no_or}
-use Rattle.model.proofs.KindTests.{is_path_by, left_path_by, left_expr_by, right_path_by, right_expr_by}
+use Rattle.model.proofs.KindTests.{is_path_by, left_expr_by, right_expr_by}
 use Rattle.eval.specs.Evaluation.{Ready, Sorted}
 
 pub kind_at : {f g : Entry} → f ≡ g → f.kind ≡ g.kind

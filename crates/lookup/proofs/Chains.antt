@@ -3,7 +3,7 @@ use Prim.Native.Nat.{ℕ, zero, suc, ◌+◌, ◌≤◌, ◌<◌}
 use native.Mathlib.Nat.{eq-or-lt_of_le}
 use native.Mathlib.Omega.{arith}
 use mathlib.Core.Path.{◌≡◌, refl, sym, ap, ◌∙◌}
-use mathlib.Core.Logic.{◌⊎◌, ⊎_elim}
+use mathlib.Core.Logic.{⊎_elim}
 use mathlib.Core.Bool.{true, false, not, ◌&&◌}
 use mathlib.Core.List.{List}
 use lib.Dec.{ltb, eqb}
@@ -17,7 +17,7 @@ use Rattle.model.proofs.Booleans.{Seen, yes!, no!, seen, no_yes, bool_ext, both_
 use Rattle.index.specs.Index.{has, first_from, index_of}
 use Rattle.index.proofs.First.{First, first_is}
 use Rattle.index.proofs.Numbers.{index_at}
-use Rattle.lookup.specs.Chain.{Chain, stops, breaks, meets, ends, wrong, chain_from, chain_of, is_broken, is_met}
+use Rattle.lookup.specs.Chain.{Chain, stops, meets, ends, wrong, chain_from, chain_of, is_broken, is_met}
 use Rattle.lookup.proofs.Subtree.{together}
 use Rattle.lookup.proofs.Tags.{Later, none!, node!, first_later, right_later, later_right}
 

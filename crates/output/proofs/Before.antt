@@ -6,8 +6,8 @@ use Rattle.model.specs.Answers.{Row, answers}
 use Rattle.model.specs.Refusals.{Check, verdict}
 use Rattle.model.specs.Checks.{tree_checks, query_checks}
 use Rattle.model.specs.Parties.{shared_checks, party_checks, shared_verdict}
-use Rattle.model.proofs.Booleans.{Seen, yes!, no!, seen, no_yes}
-use Rattle.model.proofs.Refusals.{numbered, accepted, stop_all, pass_all, by_front, same_front}
+use Rattle.model.proofs.Booleans.{Seen, yes!, no!, seen}
+use Rattle.model.proofs.Refusals.{numbered, accepted, pass_all, by_front, same_front}
 use Rattle.model.proofs.Parties.{shared_numbered}
 use Rattle.model.proofs.Accepted.{tree_numbered}
 use Rattle.job.specs.declared.Job.{Job}

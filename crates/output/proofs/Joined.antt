@@ -2,7 +2,7 @@
 use Rattle.std.proofs.Common.{◌≡◌, ℕ, ◌+◌, ◌-◌, ◌/◌, ◌%◌, ◌^◌, ◌<◌, ◌≤◌, min, Bool, true, false, cond, not, eqb, ltb, List, [], ◌∷◌, ◌++◌, length, get_or, take, drop, sym, refl, ap, ◌∙◌, subst, append_assoc, append-nil, mod-eq_of_lt, le-div_iff_mul-le, arith, length-append, length-drop, take-append-drop, drop_of_length-le, length-take, drop-drop, take_at, ltb-false, ltb-true, le-ltb, eq-eqb, eqb-true}
 use Rattle.model.specs.Sets.{bit}
 use Rattle.model.specs.Tree.{size_of}
-use Rattle.model.specs.Answers.{Row, answers}
+use Rattle.model.specs.Answers.{Row}
 use Rattle.model.specs.Pages.{row_of, has_begun, after, moved, some}
 use Rattle.model.specs.Accepted.{Below}
 use Rattle.model.specs.Parties.{over_seen}

@@ -4,7 +4,7 @@ use Rattle.model.specs.Sets.{bit}
 use Rattle.output.specs.declared.Position.{Position}
 use Rattle.output.specs.declared.Piece.{Piece}
 use Rattle.output.specs.Output.{job_verdict, answers_in, output_of}
-use Rattle.output.specs.Piece.{beginning, smallest, piece_outcome, PieceLeaves}
+use Rattle.output.specs.Piece.{smallest, piece_outcome, PieceLeaves}
 
 -- one call as it went: its buffer as it was lent, its piece, and its buffer as it returned
 pub record Call : Type 0 where

@@ -12,7 +12,7 @@ use Rattle.model.specs.Sets.{any, upto, closed}
 use Rattle.model.specs.Tree.{tree_of, size_of}
 use Rattle.model.specs.Axes.{steps}
 use Rattle.model.specs.Meaning.{pairs_over, holds_over}
-use Rattle.model.specs.QueryTable.{kind, left, right, entry, entries_of}
+use Rattle.model.specs.QueryTable.{entry, entries_of}
 use Rattle.model.specs.Kinds.{is_path, left_path, left_expr, right_expr}
 use Rattle.model.specs.Results.{assigned, related}
 use Rattle.model.proofs.Booleans.{Seen, yes!, no!, seen, or_left}

@@ -1,7 +1,6 @@
 use Rattle.answers.specs.Search.{row_at}
 use borrow.Author.Rules.{rules}
 use native.Mathlib.Omega.{arith}
-use Prim.Native.Nat.{◌-◌}
 use Rattle.model.proofs.Answers.{answers_wide, answers_member}
 use Rattle.answers.proofs.Writing.{going_start, going_length, going_fits, going_count, going_in, going_turn, page_full, page_out}
 use Rattle.answers.proofs.write_page.Goals as goal

@@ -1,4 +1,3 @@
-use Prim.Native.Nat.{◌-◌}
 use native.Mathlib.Omega.{arith}
 use mathlib.Core.Path.{◌≡◌, refl, ap, ◌∙◌}
 use borrow.Author.Rules.{rules}
@@ -21,10 +20,16 @@ pub by_rows-operands-row-requires : goal.by_rows-operands-row-requires
 by_rows-operands-row-requires t c = let p = c.requires in (omega arith, (p.0, omega arith))
 
 pub by_rows-loop-x-preserved : goal.by_rows-loop-x-preserved
-by_rows-loop-x-preserved t c = let p = c.requires in (omega arith, (c.loop-x.invariant.1.0, elim c.if-from-x-ne0.branch [
-  by_rows-then-from-x-ne0 w ↦ w.found-is ∙ rows_more p.0 _ _ _ _ _ _ _ _ w.combined-next.ensures c.loop-x.invariant.1.1 w.operands-row.ensures.0 w.single-s.ensures w.if-from-x-ne0.true (omega arith) p.1.within p.1.least p.1.most
-  | by_rows-else-from-x-ne0 w ↦ w.found-is ∙ rows_skip p.0 _ _ _ _ _ c.loop-x.invariant.1.1 w.if-from-x-ne0.false
-]))
+by_rows-loop-x-preserved t c = let p = c.requires in (
+  omega arith,
+  (
+    c.loop-x.invariant.1.0,
+    elim c.if-from-x-ne0.branch [
+      | by_rows-then-from-x-ne0 w ↦ w.found-is ∙ rows_more p.0 _ _ _ _ _ _ _ _ w.combined-next.ensures c.loop-x.invariant.1.1 w.operands-row.ensures.0 w.single-s.ensures w.if-from-x-ne0.true (omega arith) p.1.within p.1.least p.1.most
+      | by_rows-else-from-x-ne0 w ↦ w.found-is ∙ rows_skip p.0 _ _ _ _ _ c.loop-x.invariant.1.1 w.if-from-x-ne0.false
+    ],
+  ),
+)
 
 pub by_rows-returns : goal.by_rows-returns
 by_rows-returns t c = (search (rows_end, rules), search (rows_count, rules))

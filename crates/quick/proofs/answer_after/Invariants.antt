@@ -1,4 +1,3 @@
-use Prim.Native.Nat.{◌-◌}
 use Rattle.quick.proofs.Seeking.{Seeking}
 use Rattle.quick.proofs.answer_after.Given as goal
 

@@ -1,4 +1,3 @@
-use Prim.Native.Nat.{◌-◌}
 use native.Mathlib.Omega.{arith}
 use Rattle.quick.proofs.Search.{trying_start, trying_on, trying_hit, trying_end}
 use Rattle.quick.proofs.lowest_passing.Goals as goal

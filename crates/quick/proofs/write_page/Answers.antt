@@ -1,4 +1,3 @@
-use Prim.Native.Nat.{◌-◌}
 use native.Mathlib.Omega.{arith}
 use Rattle.answers.proofs.Writing.{going_length, going_fits, going_count}
 use Rattle.quick.proofs.Writing.{written_start, written_below, written_fits, written_turn, written_full, written_out}

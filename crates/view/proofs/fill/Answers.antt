@@ -1,6 +1,5 @@
 use borrow.Author.Rules.{rules}
 use native.Mathlib.Omega.{arith}
-use Prim.Native.Nat.{◌-◌}
 use lib.ListN.{get_or}
 use mathlib.Core.Path.{refl}
 use Rattle.view.proofs.Filling.{some_node, place_within, nodes_most, fill_start, parent_small, node_small, turn_seen, turn_more, fill_end}

@@ -1,4 +1,3 @@
-use Prim.Native.Nat.{◌-◌}
 use borrow.Author.Rules.{rules}
 use Rattle.answers.proofs.EmptyBlocks.{zeros_next, block_empty, block_row}
 use Rattle.answers.proofs.blocks.empty_block.Goals as goal

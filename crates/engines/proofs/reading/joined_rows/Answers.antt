@@ -1,4 +1,3 @@
-use Prim.Native.Nat.{◌-◌}
 use native.Mathlib.Omega.{arith}
 use mathlib.Core.Path.{◌∙◌}
 use borrow.Author.Rules.{rules}
@@ -14,10 +13,13 @@ pub join-next-requires : goal.join-next-requires
 join-next-requires c = (row_length _ _ c.loop-x.invariant.1, omega arith)
 
 pub loop-x-preserved : goal.loop-x-preserved
-loop-x-preserved c = (omega arith, elim c.if-s-x-ne0.branch [
-  then-s-x-ne0 w ↦ w.r-is ∙ rows_join _ _ _ _ c.loop-x.invariant.1 _ w.join-next.ensures w.if-s-x-ne0.true
-  | else-s-x-ne0 w ↦ w.r-is ∙ rows_skip _ _ _ _ c.loop-x.invariant.1 w.if-s-x-ne0.false
-])
+loop-x-preserved c = (
+  omega arith,
+  elim c.if-s-x-ne0.branch [
+    | then-s-x-ne0 w ↦ w.r-is ∙ rows_join _ _ _ _ c.loop-x.invariant.1 _ w.join-next.ensures w.if-s-x-ne0.true
+    | else-s-x-ne0 w ↦ w.r-is ∙ rows_skip _ _ _ _ c.loop-x.invariant.1 w.if-s-x-ne0.false
+  ],
+)
 
 pub returns : goal.returns
 returns c = search (rows_end, rules)

@@ -1,10 +1,8 @@
-use Prim.Native.Nat.{◌-◌}
 use native.Mathlib.Omega.{arith}
 use mathlib.Core.Path.{ap, ◌∙◌}
 use borrow.Author.Rules.{rules}
 use Rattle.model.specs.Sets.{bit}
 use Rattle.model.proofs.Bytes.{fill_start, fill_store, fill_done}
-use Rattle.engines.specs.Reading.{meets}
 use Rattle.engines.proofs.reading.meeting.Goals as goal
 
 pub loop-x-init : goal.loop-x-init
