@@ -10,7 +10,7 @@ def files(*suffixes, under=""):
     """The paths, from the root, of all files with one of these suffixes; of all files where none is given."""
     found = []
     for folder, folders, names in os.walk(os.path.join(ROOT, under)):
-        folders[:] = [f for f in folders if f not in (".git", "target", "__pycache__")]
+        folders[:] = [f for f in folders if f not in (".git", "target", "out", "__pycache__")]
         found += [os.path.relpath(os.path.join(folder, n), ROOT) for n in names if not suffixes or n.endswith(suffixes)]
     return sorted(found)
 
@@ -26,12 +26,12 @@ def uncommented(text, mark):
 
 
 def crates():
-    """The crates of crates.txt in its order, each with its dependencies."""
+    """The crates of crates.txt in its order, each with its dependencies. What stands behind a name says what kind of crate it is."""
     listed = {}
     for line in uncommented(read("crates.txt"), "#"):
         if line:
-            name, deps = line.split(":", 1)
-            listed[name.strip()] = deps.split()
+            head, deps = line.split(":", 1)
+            listed[head.split()[0]] = deps.split()
     return listed
 
 
@@ -44,8 +44,8 @@ def services(read=read):
 
 
 def word(name):
-    """A pattern for an identifier on its own; those of specs and proofs may hold hyphens."""
-    return re.compile(r"(?<![\w'′-])%s(?![\w'′-])" % re.escape(name))
+    """A pattern for an identifier on its own; those of specs and proofs may hold primes."""
+    return re.compile(r"(?<![\w'])%s(?![\w'])" % re.escape(name))
 
 
 def end(problems):
