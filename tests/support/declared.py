@@ -7,7 +7,7 @@ import re
 
 from repository import ROOT, crates, files, read, uncommented
 
-NAMED = re.compile(r"(?:abbrev |unfoldable )?(pub )?(?:(record|data) (\S+)|(\S+) :(?: |$))")
+NAMED = re.compile(r"(?:(?:pattern|unfoldable|abbrev) )*(pub )?(?:(record|data) (\S+)|(\S+)(?: \{[^{}]*\})? :(?: |$))")
 CASE = re.compile(r"^ +(\S+) : ", re.M)
 IMPORT = re.compile(r"^(?:ghost |pub )?use ([\w.']+?)(?:\.\{([^}]*)\}| as (\S+?))?;?$", re.M)
 MODULE = re.compile(r"Rattle\.(\w+)\.(specs|proofs)\.(.+)")

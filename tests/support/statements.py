@@ -26,8 +26,8 @@ a slice or record that is lent to be read holds; of one that is lent with `mut`,
 `x.new` what it holds as the call returns. A parameter by value stands for itself. A law that stands in a `module` holds for all that
 the module's head names. Most of the notation is told at the head of [Sets.antt](../crates/model/specs/Sets.antt). Beside that, `P ↔ Q`
 says that each of the two follows from the other, `P ⊎ Q` that one of them holds; `Unit` always holds and `⊥` never. `map f l` has f of
-each element of l, `replicate n x` is x n times, and `Bor` is a slice as it is lent: which block of memory it points into, where, and
-what stands there.
+each element of l, `replicate n x` is x n times, and `Bor` is a slice as it is lent: `r.ref_ptr.0` and `r.ref_ptr.1` are the block of
+memory that it points into, and where.
 
 This file is written from the source by `tests/support/statements.py`, and a test of the gate fails where the two differ. So for
 every change the diff of this file is the list of the promises that moved: run the script, and read the diff.
