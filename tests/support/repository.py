@@ -1,9 +1,11 @@
-"""What the tests of the source share: the files of the repository, its crates, and how a test ends."""
+"""What the tests share: the files of the repository, its crates, the program, and how a test ends."""
 import os
 import re
+import subprocess
 import sys
 
 ROOT = os.path.dirname(os.path.dirname(os.path.dirname(os.path.abspath(__file__))))
+PROGRAM = os.path.join(ROOT, "crates", "picklist", "out", "picklist")
 
 
 def files(*suffixes, under=""):
@@ -46,6 +48,15 @@ def services(read=read):
 def word(name):
     """A pattern for an identifier on its own; those of specs and proofs may hold primes."""
     return re.compile(r"(?<![\w'])%s(?![\w'])" % re.escape(name))
+
+
+def build_program():
+    """Has rt build the program where rt ci has not left it; what is proved already is not proved again."""
+    if not os.access(PROGRAM, os.X_OK):
+        folder = os.path.join(ROOT, "crates", "picklist")
+        subprocess.run(["rt", "run"], cwd=folder, stdin=subprocess.DEVNULL, stdout=subprocess.DEVNULL)
+    if not os.access(PROGRAM, os.X_OK):
+        end(["the program is not built: %s" % os.path.relpath(PROGRAM, ROOT)])
 
 
 def end(problems):
