@@ -11,7 +11,7 @@ from repository import ROOT, end, read
 LOG = os.path.join("target", "ci.log")
 TRIED = re.compile(r"^rt: must-fail (\w+)/([\w.-]+)\.edit: (.*)$", re.M)
 REFUSED = re.compile(r"refused, as it must be(?: \((only .*?)\))?: (?:note: )?(\S+): (.*)")
-UNFIT = re.compile(r"that can be named from here|has no field|was not admitted|not in the proof's files")
+UNFIT = re.compile(r"that can be named from here|has no field|was not admitted")
 UNFIT_LAW = re.compile(r"is not in scope|no occurrence of")
 
 problems = []
