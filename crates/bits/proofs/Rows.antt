@@ -8,7 +8,7 @@ use mathlib.Core.List.{List, ◌++◌}
 use lib.ListN.{length, get_or, drop, length-append, length-drop, get_or-append}
 use lib.Seq.{ext_get_or, get_or-append-add, get_or-drop}
 use Rattle.model.proofs.Booleans.{lt_or_le}
-use Rattle.bits.specs.Words.{test_bit, word, words, has_bit}
+use Rattle.bits.specs.Words.{test_bit, words, has_bit}
 use Rattle.bits.specs.BitTables.{bit_relation}
 use Rattle.bits.specs.Rows.{Becomes, RowBecomes}
 use Rattle.bits.proofs.Words.{length_words, get_d_words, has_bit_words, has_bit_at, word_at, word_cong}

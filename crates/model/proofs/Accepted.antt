@@ -13,7 +13,7 @@ use borrow.Author.Tests.{lt-ltb, ltb-true, ltb-false, eqb-true, eqb-false, not-f
 use Rattle.model.specs.Sets.{any, bit}
 use Rattle.model.specs.Tree.{Tree, tree_at, tree_of, size_of}
 use Rattle.model.specs.Axes.{self, ancestor, descendant, following, preceding, is_document, descendant_or_self}
-use Rattle.model.specs.QueryTable.{entries_of, kind, left, right, tag, entry, last_of}
+use Rattle.model.specs.QueryTable.{entries_of, kind, left, right, entry, last_of}
 use Rattle.model.specs.Refusals.{verdict}
 use Rattle.model.specs.Kinds.{is_path, left_path, left_expr, right_path, right_expr, names_variable, has_left, has_right}
 use Rattle.model.specs.Checks.{bad_parent, bad_tag, tree_checks_at, tree_checks, bad_step, bad_variable, bad_unnamed, bad_entry, uses, misused, query_checks}

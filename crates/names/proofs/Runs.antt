@@ -3,7 +3,7 @@
 use Prim.Native.Nat.{ℕ, zero, suc, ◌+◌}
 use native.Mathlib.Nat.{add-zero}
 use native.Mathlib.Omega.{arith}
-use mathlib.Core.Path.{◌≡◌, refl, sym, ap, ap₂, ◌∙◌}
+use mathlib.Core.Path.{◌≡◌, refl, sym, ap, ap₂, ◌∙◌, subst}
 use mathlib.Core.Bool.{Bool, true, false, not, ◌&&◌}
 use mathlib.Core.List.{List, [], ◌∷◌, ◌++◌, map, append_assoc}
 use lib.ListN.{length, take, drop, length-append, take-append-drop}
@@ -66,7 +66,9 @@ names_behind k a [] = refl
 names_behind k a (w ∷ ws) =
     let l : suc (length a) + length w ≡ length (a ++ (length w ∷ w)) = rw (length-append a (length w ∷ w)) (omega arith) in
     ap₂ ◌∷◌ head
-    (rw (past_name k (suc (length a)) w (run ws), l, sym (append_assoc a (length w ∷ w) (run ws))) (names_behind k (a ++ (length w ∷ w)) ws))
+    (rw (past_name k (suc (length a)) w (run ws), l)
+    (subst (λ (t : List ℕ). map (bytes t) (names_from k (length (a ++ (length w ∷ w))) 0 (run ws)) ≡ ws) (append_assoc a (length w ∷ w) (run ws))
+    (names_behind k (a ++ (length w ∷ w)) ws)))
   where
     one_more : length (a ++ (length w ∷ [])) ≡ suc (length a)
     one_more = rw (length-append a (length w ∷ [])) (omega arith)

@@ -12,7 +12,7 @@ use Rattle.model.specs.declared.Entry.{Entry}
 use Rattle.model.specs.Syntax.{Path, NodeExpr}
 use Rattle.model.specs.Syntax.Path.{step, compose, union, intersect, except, filter, variable, from_root, closure}
 use Rattle.model.specs.Syntax.NodeExpr.{exists, negate, both, either, is, same}
-use Rattle.model.specs.QueryTable.{entries_of, kind, left, right, tag, entry, path_at, expr_at, last_of}
+use Rattle.model.specs.QueryTable.{entries_of, kind, left, right, entry, path_at, expr_at, last_of}
 use Rattle.model.specs.Kinds.{is_path, left_path, left_expr, right_path, right_expr, names_variable, has_left, has_right}
 use Rattle.model.specs.Accepted.{Shaped, Evaluable}
 use Rattle.model.specs.Sharing.{any_node, everywhere, opened, opened_expr, unfilled}

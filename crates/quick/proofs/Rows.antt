@@ -3,7 +3,7 @@ use Prim.Native.Nat.{ℕ, zero, suc, ◌+◌, ◌<◌}
 use native.Mathlib.Nat.{le_of_suc-le-suc}
 use native.Mathlib.Decide.{dec_lt}
 use native.Mathlib.Omega.{arith}
-use mathlib.Core.Path.{◌≡◌, refl, sym, ap, ap₂, ◌∙◌}
+use mathlib.Core.Path.{◌≡◌, refl, sym, ap, ap₂, ◌∙◌, subst}
 use mathlib.Core.Logic.{◌⊎◌}
 use mathlib.Core.Bool.{Bool, true, false}
 use mathlib.Core.List.{List, [], ◌∷◌}
@@ -68,7 +68,8 @@ none_kept f (y ∷ ys) h = rw (h y (◌⊎◌.inl refl)) (none_kept f ys (λ x i
 -- the first of all
 pub first_kept : (L : List Row) (s : Row) → Rising L → In s L → ((x : Row) → In x L → less x s ≡ false) → L ≡ s ∷ keep (less s) L
 first_kept [] s g i h = absurd i
-first_kept (y ∷ ys) s g (◌⊎◌.inl e) h = rw (e, less_self y) (ap {B = List Row} (λ l. y ∷ l) (sym (keep_all (less y) ys g.0)))
+first_kept (y ∷ ys) s g (◌⊎◌.inl e) h =
+    subst (λ (z : Row). y ∷ ys ≡ z ∷ keep (less z) (y ∷ ys)) (sym e) (rw (less_self y) (ap {B = List Row} (λ l. y ∷ l) (sym (keep_all (less y) ys g.0))))
 first_kept (y ∷ ys) s g (◌⊎◌.inr i) h = no_yes (h y (◌⊎◌.inl refl)) (g.0 s i)
 
 -- the first of those after r

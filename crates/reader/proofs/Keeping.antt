@@ -2,7 +2,7 @@
 use Prim.Native.Nat.{ℕ, ◌+◌, ◌-◌, ◌*◌, ◌≤◌, ◌<◌}
 use native.Mathlib.Omega.{arith}
 use mathlib.Core.Path.{◌≡◌, refl, sym, ap, ◌∙◌, subst}
-use mathlib.Core.Logic.{◌⊎◌, ⊎_elim}
+use mathlib.Core.Logic.{⊎_elim}
 use mathlib.Core.Bool.{Bool, true, false, cond}
 use mathlib.Core.List.{List, [], ◌∷◌, ◌++◌, append-nil}
 use lib.ListN.{length, take, drop}
@@ -10,7 +10,7 @@ use lib.Seq.{length-take-le}
 use lib.Dec.{ltb, eqb}
 use borrow.Author.Tests.{ltb-false, le-ltb}
 use Rattle.model.proofs.Booleans.{Seen, yes!, no!, seen, no_yes}
-use Rattle.model.specs.Encoding.{Term, size, path_term, columns}
+use Rattle.model.specs.Encoding.{Term, size, path_term}
 use Rattle.grammar.specs.Grammar.{Expr}
 use Rattle.grammar.specs.Online.{Choice, run}
 use Rattle.grammar.specs.Online.Choice.{choice}

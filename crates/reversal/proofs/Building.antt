@@ -4,18 +4,18 @@ use native.Mathlib.Nat.{eq-or-lt_of_le}
 use native.Mathlib.Omega.{arith}
 use mathlib.Core.Path.{◌≡◌, refl, sym, ap, ◌∙◌, subst}
 use mathlib.Core.Logic.{◌⊎◌, ⊎_elim}
-use mathlib.Core.Bool.{Bool, true, false, not, cond, ◌&&◌, ◌||◌}
+use mathlib.Core.Bool.{Bool, true, false, not, cond}
 use mathlib.Core.List.{List, [], ◌∷◌, ◌++◌, append_assoc}
 use lib.ListN.{length, get_or, take}
 use lib.Dec.{ltb, eqb}
-use borrow.Author.Tests.{not-true, not-false, eqb-true, ltb-true, lt-ltb}
+use borrow.Author.Tests.{not-true, not-false, eqb-true, ltb-true}
 use Rattle.model.specs.declared.Entry.{Entry}
 use Rattle.model.specs.Syntax.{Path}
 use Rattle.model.specs.Syntax.Path.{step, variable}
 use Rattle.model.specs.Encoding.{Term, path_term, expr_term, size}
 use Rattle.model.specs.QueryTable.{entries_of, kind, left, right, tag, entry, path_at, expr_at}
 use Rattle.model.specs.Kinds.{is_path, left_path, left_expr, right_path, right_expr, has_left, has_right, names_variable}
-use Rattle.model.proofs.Booleans.{Seen, yes!, no!, seen, no_yes, both_yes, or_left, or_cases}
+use Rattle.model.proofs.Booleans.{Seen, yes!, no!, seen, no_yes, or_cases}
 use Rattle.model.proofs.KindTests.{is_path_by, path_on_left, path_on_right}
 use Rattle.model.proofs.QueryTable.{at_step, at_compose, at_union, at_intersect, at_except, at_filter, at_variable, at_root, at_closure}
 use Rattle.model.proofs.Formed.{PathBefore, Read, read, left_lower, right_lower}

@@ -1,21 +1,20 @@
 -- Laws for the service: what the checks secure, the verdict, and what a refused call and an accepted one leave.
-use Prim.Native.Nat.{ℕ, ◌*◌, ◌≤◌, ◌<◌}
+use Prim.Native.Nat.{ℕ, ◌*◌, ◌<◌}
 use mathlib.Core.Path.{◌≡◌, sym, ap, ◌∙◌}
-use mathlib.Core.Bool.{true, false, not, ◌&&◌, ◌||◌}
+use mathlib.Core.Bool.{true, false, not, ◌&&◌}
 use mathlib.Core.List.{List, ◌++◌}
 use lib.ListN.{length, take, drop}
-use lib.Dec.{ltb, eqb}
-use borrow.Author.Tests.{ltb-false, eqb-true, eq-eqb, ne_eqb, not-false}
+use lib.Dec.{eqb}
+use borrow.Author.Tests.{eqb-true, not-false}
 use Rattle.model.specs.declared.Reply.{Reply}
 use Rattle.model.specs.declared.MadeReply.{MadeReply}
-use Rattle.model.specs.QueryTable.{entries_of, kind, left, right, tag, entry}
+use Rattle.model.specs.QueryTable.{entries_of, kind, right, tag, entry}
 use Rattle.model.specs.Kinds.{names_variable, has_right}
 use Rattle.model.specs.Encoding.{path_term}
 use Rattle.model.specs.Refusals.{making, verdict}
-use Rattle.model.specs.Checks.{bad_step, bad_variable, bad_unnamed, bad_entry, query_checks}
+use Rattle.model.specs.Checks.{bad_variable, bad_unnamed, query_checks}
 use Rattle.model.specs.Services.{Leaves}
 use Rattle.model.proofs.Booleans.{Seen, yes!, no!, seen, no_yes, no_or, guarded}
-use Rattle.model.proofs.Exists.{none_of}
 use Rattle.model.proofs.Encoding.{length_encode}
 use Rattle.model.proofs.Refusals.{Passes, accepted, stop_all, pass_all, leaves_none, leaves_table}
 use Rattle.model.proofs.Accepted.{fields_at, axis_at, query_shaped, query_numbered}

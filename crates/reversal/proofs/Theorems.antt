@@ -3,7 +3,7 @@ use Prim.Native.Nat.{ℕ, ◌+◌, ◌*◌, ◌≤◌, ◌<◌}
 use native.Mathlib.Omega.{arith}
 use mathlib.Core.Path.{◌≡◌, refl, sym, ap, ◌∙◌, fun_ext}
 use mathlib.Core.Bool.{Bool, true, false, not, ◌&&◌, cond, not-not}
-use mathlib.Core.List.{List, [], ◌∷◌, ◌++◌, append_assoc}
+use mathlib.Core.List.{List, ◌++◌, append_assoc}
 use lib.Dec.{ltb, eqb}
 use lib.ListN.{length, get_or}
 use borrow.Author.Tests.{eqb-true}
@@ -17,7 +17,7 @@ use Rattle.model.specs.Meaning.{pairs}
 use Rattle.model.specs.QueryTable.{path_at, last_of}
 use Rattle.model.specs.Results.{assigned, related, image_bytes, cell, pairs_bytes}
 use Rattle.model.specs.Answers.{Row, all_rows, keep, satisfied, answers}
-use Rattle.model.specs.Refusals.{Check, reply, counting, verdict, written}
+use Rattle.model.specs.Refusals.{Check, counting, verdict, written}
 use Rattle.model.specs.Checks.{tree_checks, query_checks, node_checks, set_checks, room_checks, table_checks, image_checks}
 use Rattle.model.specs.Parties.{seen_table, shared_verdict, over_seen}
 use Rattle.model.specs.Services.{image_verdict, seen_image}

@@ -13,7 +13,7 @@ use borrow.Author.Tests.{eqb-true, lt-ltb, le-ltb, ltb-true}
 use Rattle.model.specs.Sets.{any}
 use Rattle.model.proofs.Booleans.{bool_ext, both_yes, yes_left, yes_right, lt_or_le}
 use Rattle.model.proofs.Exists.{any_intro, any_elim, any_cong, any_never, any_or, any_one}
-use Rattle.bits.specs.Words.{test_bit, word, words, has_bit}
+use Rattle.bits.specs.Words.{test_bit, words, has_bit}
 use Rattle.bits.specs.BitTables.{bit_relation}
 use Rattle.bits.specs.Rows.{composed}
 use Rattle.bits.proofs.Words.{words_cong, lowest_of, test_without, test_none, any_append}

@@ -16,13 +16,13 @@ pub returns-then-count-room : goal.returns-then-count-room
 returns-then-count-room c = search (page_full, rules)
 
 pub overflow_mul-count : goal.overflow_mul-count
-overflow_mul-count c = let l = c.loop-at in record { fits = omega (arith, going_fits l.invariant c.if-count-room.false, going_length l.invariant, c.before.before.before.before.before.before.before.before.before.before.before.before.well-formed) }
+overflow_mul-count c = let l = c.loop-at in record { fits = omega (arith, going_fits l.invariant c.if-count-room.false, going_length l.invariant, c.well_formed) }
 
 pub write_row-requires : goal.write_row-requires
 write_row-requires c = let l = c.loop-at in (c.requires.0.listed.searchable.most, going_fits l.invariant c.if-count-room.false)
 
 pub overflow_add-count : goal.overflow_add-count
-overflow_add-count c = let l = c.loop-at in record { fits = omega (arith, going_count l.invariant c.if-count-room.false, c.before.before.before.before.before.before.before.before.before.before.before.before.before.before.before.before.well-formed) }
+overflow_add-count c = let l = c.loop-at in record { fits = omega (arith, going_count l.invariant c.if-count-room.false, c.well_formed) }
 
 pub answer_after-following-requires : goal.answer_after-following-requires
 answer_after-following-requires c = let l = c.loop-at in (c.requires.0, ((answers_member c.args.tree.now c.args.query.now c.args.plan.columns (row_at c.args.plan.columns l.at)).0 (going_in l.invariant c.loop-at-test.true)).1)

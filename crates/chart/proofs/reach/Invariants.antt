@@ -1,5 +1,5 @@
 -- `chart::reach` is safe and ends.
-use Rattle.std.proofs.Common.{◌-◌, length}
+use Rattle.std.proofs.Common.{◌-◌}
 use Rattle.chart.proofs.reach.Given as goal
 
 abbrev pub invariant-loop-p : goal.invariant-loop-p

@@ -1,7 +1,6 @@
 use Rattle.job.proofs.Files.{none_written, one_written, all_written}
 use lib.ListN.{length-set}
 use mathlib.Core.Path.{refl}
-use Prim.Native.Nat.{◌-◌}
 use native.Mathlib.Omega.{arith}
 use borrow.Author.Rules.{rules}
 use Rattle.job.proofs.decode.Goals as goal

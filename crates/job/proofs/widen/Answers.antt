@@ -1,7 +1,7 @@
 use borrow.Author.Rules.{rules}
 use Rattle.job.proofs.Widening.{widening_start, widening_turn, widening_even, widening_odd, widening_all, place_kept, odd_read}
 use native.Mathlib.Omega.{arith}
-use Prim.Native.Nat.{◌+◌, ◌-◌, ◌*◌}
+use Prim.Native.Nat.{◌+◌, ◌*◌}
 use lib.ListN.{get_or, set, length-set}
 use Rattle.job.proofs.widen.Goals as goal
 

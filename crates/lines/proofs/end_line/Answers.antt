@@ -1,6 +1,5 @@
 -- The word, and the number behind it.
 use Rattle.lines.proofs.Rows.{end_fits, wrote_end}
-use borrow.Author.Rules.{rules}
 use Rattle.lines.proofs.end_line.Goals as goal
 
 -- UNKNOWN NEED slice-aggregate-put-bytes

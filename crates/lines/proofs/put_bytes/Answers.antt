@@ -1,7 +1,6 @@
 use Rattle.lines.proofs.Rows.{next_byte, next_byte_fits}
 use Rattle.lines.proofs.Writing.{begin, go_on, end}
 use lib.ListN.{drop_of_length-le}
-use Prim.Native.Nat.{◌-◌}
 use native.Mathlib.Omega.{arith}
 use Rattle.lines.proofs.put_bytes.Goals as goal
 

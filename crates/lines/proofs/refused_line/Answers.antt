@@ -1,6 +1,5 @@
 -- The word, and the two numbers behind it.
 use Rattle.lines.proofs.Rows.{refused_fits, place_fits, wrote_refused}
-use borrow.Author.Rules.{rules}
 use Rattle.lines.proofs.refused_line.Goals as goal
 
 -- UNKNOWN NEED slice-aggregate-put-bytes

@@ -1,6 +1,5 @@
 use Rattle.lines.proofs.Rows.{next_number, next_number_fits, no_number}
 use Rattle.lines.proofs.Writing.{begin, go_on, end}
-use Prim.Native.Nat.{◌-◌}
 use native.Mathlib.Omega.{arith}
 use Rattle.lines.proofs.row_line.Goals as goal
 

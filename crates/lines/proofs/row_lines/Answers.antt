@@ -17,7 +17,7 @@ pub row_line-next-requires : goal.row_line-next-requires
 row_line-next-requires c = next_row_fits _ _ _ _ _ _ _ _ _ _ c.loop-left-test.true refl c.loop-left.invariant.1
 
 pub loop-left-preserved : goal.loop-left-preserved
-loop-left-preserved c = (omega (arith, one_row c.loop-left.left c.args.k c.loop-left-test.true), go_on _ _ _ _ _ _ _ _ _ _ c.loop-left.invariant.1 (next_row _ _ _ _ _ c.loop-left-test.true refl) c.before.before.row_Line.ensures)
+loop-left-preserved c = (omega (arith, one_row c.loop-left.left c.args.k c.loop-left-test.true), go_on _ _ _ _ _ _ _ _ _ _ c.loop-left.invariant.1 (next_row _ _ _ _ _ c.loop-left-test.true refl) c.before.before.row_line-next.ensures)
 
 pub shape_of-out : goal.shape_of-out
 shape_of-out c = c.loop-left.invariant.1.same

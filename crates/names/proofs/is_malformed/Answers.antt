@@ -1,6 +1,5 @@
 use Rattle.names.proofs.Reading.{fault, no_fault, no_more}
 use mathlib.Core.Path.{refl}
-use Prim.Native.Nat.{◌-◌}
 use borrow.Author.Rules.{rules}
 use Rattle.names.proofs.is_malformed.Goals as goal
 

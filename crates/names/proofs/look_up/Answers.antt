@@ -11,7 +11,7 @@ pub returns-then-tag-gt65533 : goal.returns-then-tag-gt65533
 returns-then-tag-gt65533 c = refused_22 _ _ _ _ _ c.reply_at.ensures (too_high _ _ _ (omega arith)) c.check_tables-tables.ensures (search rules)
 
 pub returns-in-At : goal.returns-in-At
-returns-in-At c = named _ _ _ _ _ c.find.result (search (one, present, rules)) c.find.ensures c.p-1.given.1 (search rules)
+returns-in-At c = named _ _ _ _ _ c.find.result (search (one, present, rules)) c.find.ensures c.in-At.is (search rules)
 
 pub returns-in-Past : goal.returns-in-Past
 returns-in-Past c = search (refused_22, missing, rules)

@@ -1,6 +1,5 @@
 use borrow.Author.Rules.{rules}
 use native.Mathlib.Omega.{arith}
-use Prim.Native.Nat.{◌-◌}
 use mathlib.Core.Path.{refl}
 use Rattle.names.proofs.Searching.{other_size, byte_differs, byte_same, all_same}
 use Rattle.names.proofs.same.Goals as goal

@@ -1,6 +1,5 @@
 use Rattle.names.proofs.Reading.{here, later, ended}
 use mathlib.Core.Path.{refl}
-use Prim.Native.Nat.{◌-◌}
 use borrow.Author.Rules.{rules}
 use Rattle.names.proofs.seek.Goals as goal
 

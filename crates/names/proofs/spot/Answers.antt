@@ -1,6 +1,5 @@
 use Rattle.names.proofs.Searching.{tags_end, is_hit, is_miss, table_ends}
 use mathlib.Core.Path.{refl}
-use Prim.Native.Nat.{◌-◌}
 use native.Mathlib.Omega.{arith}
 use borrow.Author.Rules.{rules}
 use Rattle.names.proofs.spot.Goals as goal

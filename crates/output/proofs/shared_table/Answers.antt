@@ -3,7 +3,7 @@ use Rattle.std.proofs.Common.{sym, ◌∙◌, arith, length-take-le, rules}
 use Rattle.output.proofs.shared_table.Goals as goal
 
 pub returns-then-owners : goal.returns-then-owners
-returns-then-owners c = table_owned _ _ _ _ _ c.decode.ensures (c.decode.auto.1.1.1.0 ∙ c.requires.1.1) (search rules)
+returns-then-owners c = table_owned _ _ _ _ _ c.decode.ensures (c.decode.auto.out ∙ c.requires.1.1) (search rules)
 
 pub slice_bounds-widen-end : goal.slice_bounds-widen-end
 slice_bounds-widen-end c = sym (length-take-le _ _ (search rules))

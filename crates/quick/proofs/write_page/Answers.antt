@@ -14,7 +14,7 @@ pub returns-then-count-room : goal.returns-then-count-room
 returns-then-count-room c = written_full c.loop-at.invariant _ _ c.counted.ensures c.page_of.ensures c.loop-at-test.true c.if-count-room.true
 
 pub overflow_mul-count : goal.overflow_mul-count
-overflow_mul-count c = let g = c.loop-at.invariant.going in record { fits = omega (arith, going_fits g c.if-count-room.false, going_length g, c.before.before.before.before.before.before.before.before.before.before.before.well-formed) }
+overflow_mul-count c = let g = c.loop-at.invariant.going in record { fits = omega (arith, going_fits g c.if-count-room.false, going_length g, c.well_formed) }
 
 pub write_row-requires : goal.write_row-requires
 write_row-requires c = (c.requires.0.listed.searchable.most, going_fits c.loop-at.invariant.going c.if-count-room.false)
@@ -23,7 +23,7 @@ pub cursor_at-last-requires : goal.cursor_at-last-requires
 cursor_at-last-requires c = (c.requires.0.listed.searchable.least, c.requires.0.listed.searchable.most)
 
 pub overflow_add-count : goal.overflow_add-count
-overflow_add-count c = record { fits = omega (arith, going_count c.loop-at.invariant.going c.if-count-room.false, c.before.before.before.before.before.before.before.before.before.before.before.before.before.before.before.well-formed) }
+overflow_add-count c = record { fits = omega (arith, going_count c.loop-at.invariant.going c.if-count-room.false, c.well_formed) }
 
 pub answer_after-following-requires : goal.answer_after-following-requires
 answer_after-following-requires c = (c.requires.0, written_below c.loop-at.invariant c.loop-at-test.true)

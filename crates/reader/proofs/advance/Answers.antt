@@ -5,18 +5,14 @@ use native.Mathlib.Omega.{arith}
 use borrow.Author.Rules.{rules}
 use Rattle.reader.proofs.advance.Goals as goal
 
--- src/lib.rt:203:32
 pub overflow_add-result : goal.overflow_add-result
-overflow_add-result c = let h : c.args.p.at + c.n-1.given.0.0 ≤ length c.args.text.now = search (stop_within, rules) in omega arith
+overflow_add-result c = let h : c.args.p.at + c.in-Halt.n ≤ length c.args.text.now = search (stop_within, rules) in omega arith
 
--- src/lib.rt:203:13
 pub returns-in-Halt : goal.returns-in-Halt
 returns-in-Halt c = search (turn_stops, rules)
 
--- src/lib.rt:206:29
 pub take_word-requires : goal.take_word-requires
 take_word-requires c = (search rules, search (bytes_within, rules), search rules, search rules, omega arith, search (word_within, rules), search rules, search rules)
 
--- src/lib.rt:206:13
 pub returns-in-Go : goal.returns-in-Go
 returns-in-Go c = search (turn_goes, rules)

@@ -2,6 +2,5 @@ use Rattle.reader.proofs.Took.{finished_is}
 use borrow.Author.Rules.{rules}
 use Rattle.reader.proofs.finish.Goals as goal
 
--- src/lib.rt:212:1
 pub returns : goal.returns
 returns c = search (finished_is, rules)

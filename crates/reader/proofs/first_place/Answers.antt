@@ -1,6 +1,5 @@
 use Rattle.reader.proofs.Places.{first_place}
 use Rattle.reader.proofs.first_place.Goals as goal
 
--- src/lib.rt:52:1
 pub returns : goal.returns
 returns c = first_place _ c.new_draft.ensures

@@ -2,10 +2,8 @@ use Rattle.reader.proofs.Places.{unknown_again, unknown_first}
 use borrow.Author.Rules.{rules}
 use Rattle.reader.proofs.first_unknown.Goals as goal
 
--- src/lib.rt:72:9
 pub returns-then-p : goal.returns-then-p
 returns-then-p c = search (unknown_again, rules)
 
--- src/lib.rt:68:1
 pub returns : goal.returns
 returns c = search (unknown_first, rules)

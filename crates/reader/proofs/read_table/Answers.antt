@@ -6,18 +6,14 @@ use Rattle.reader.proofs.Verdicts.{table_refused, entries_fit, table_fits, colum
 use borrow.Author.Rules.{rules}
 use Rattle.reader.proofs.read_table.Goals as goal
 
--- src/lib.rt:338:9
 pub returns-then-v-ne0 : goal.returns-then-v-ne0
 returns-then-v-ne0 c = table_refused _ _ _ _ _ c.read_text-r.ensures _ _ (search rules) _ c.refused.ensures (search rules)
 
--- src/lib.rt:342:5
 pub copy-requires : goal.copy-requires
-copy-requires c = (let h : c.read_text-r.result.draft.entries ≤ 64 = search (entries_fit, rules) in let l : length c.read_text-r.new.1.1.1.0 ≡ 256 = search rules in omega arith, search (table_fits, rules))
+copy-requires c = (let h : c.read_text-r.result.draft.entries ≤ 64 = search (entries_fit, rules) in let l : length c.read_text-r.new.table ≡ 256 = search rules in omega arith, search (table_fits, rules))
 
--- src/lib.rt:347:18
 pub overflow_cast-result : goal.overflow_cast-result
 overflow_cast-result c = let h : c.read_text-r.result.draft.columns < 65536 = search (columns_fit, rules) in omega arith
 
--- src/lib.rt:330:1
 pub returns : goal.returns
 returns c = table_accepted _ _ _ _ _ c.read_text-r.ensures _ c.check_reading-v.result (search rules) (search rules) _ c.copy.ensures

@@ -1,4 +1,4 @@
-use Prim.Native.Nat.{ℕ, ◌-◌}
+use Prim.Native.Nat.{ℕ}
 use borrow.Author.Rules.{rules}
 use native.Mathlib.Omega.{arith}
 use mathlib.Core.Path.{refl}
@@ -7,30 +7,23 @@ use Rattle.reader.proofs.Keeping.{within_text, kept_end}
 use Rattle.reader.proofs.Loop.{kept_first, turn_stuck, turn_on, turn_less}
 use Rattle.reader.proofs.read_text.Goals as goal
 
--- src/lib.rt:260:5
 pub loop-p-init : goal.loop-p-init
 loop-p-init c = kept_first _ _ _ _ _ _ _ c.first_place-p.ensures (length-replicate {A = ℕ} 1024 0) (search rules) (length-replicate {A = ℕ} 64 0)
 
--- src/lib.rt:261:15
 pub advance-requires : goal.advance-requires
 advance-requires c = (within_text _ _ _ _ _ _ _ _ _ c.loop-p.invariant (search rules) _ refl, search rules, search rules, c.loop-p.invariant.started, c.loop-p.invariant.place.shallow, c.loop-p.invariant.place.room, c.loop-p.invariant.wrote.sound)
 
--- src/lib.rt:263:17
 pub returns-in-Stuck : goal.returns-in-Stuck
 returns-in-Stuck c = turn_stuck _ _ _ _ _ _ _ _ _ c.loop-p.invariant (search rules) (search rules) _ _ _ _ c.advance.ensures _ _ (search rules) c.stuck.ensures
 
--- src/lib.rt:260:5
 pub loop-p-smaller : goal.loop-p-smaller
-loop-p-smaller c = turn_less _ _ _ _ _ _ _ _ _ c.loop-p.invariant (search rules) c.requires.0 _ _ _ _ c.advance.ensures c.next-1.given.0.0 (search rules)
+loop-p-smaller c = turn_less _ _ _ _ _ _ _ _ _ c.loop-p.invariant (search rules) c.requires.0 _ _ _ _ c.advance.ensures c.in-On.next (search rules)
 
--- src/lib.rt:260:5
 pub loop-p-preserved : goal.loop-p-preserved
 loop-p-preserved c = turn_on _ _ _ _ _ _ _ _ _ c.loop-p.invariant (search rules) c.requires.0 _ _ _ _ c.advance.ensures _ (search rules)
 
--- src/lib.rt:270:5
 pub finish-requires : goal.finish-requires
 finish-requires c = (c.loop-p.invariant.started, c.loop-p.invariant.place.inside, omega (arith, c.loop-p.invariant.place.shallow, c.loop-p.invariant.place.inside, c.loop-p.invariant.place.room), c.loop-p.invariant.wrote.sound)
 
--- src/lib.rt:253:1
 pub returns : goal.returns
 returns c = kept_end _ _ _ _ _ _ _ _ _ c.loop-p.invariant (search rules) _ _ _ c.finish.ensures (search rules, length-replicate {A = ℕ} 64 0)

@@ -1,5 +1,4 @@
 use Rattle.reversal.proofs.Building.{known_converse}
-use borrow.Author.Rules.{rules}
 use Rattle.reversal.proofs.converse_axis.Goals as goal
 
 -- UNKNOWN NEED array-read-result

@@ -21,7 +21,7 @@ returns-then-w-ne0 c = made_refused _ _ _ _ c.check_query-v.ensures c.if-v-ne0.f
 pub copy-requires : goal.copy-requires
 copy-requires c =
     let w = size_passes c.reverse_into-entries.result _ _ c.check_size-w.ensures c.if-w-ne0.false in
-    let l : length c.reverse_into-entries.new.1.0 ≡ 256 = search rules in
+    let l : length c.reverse_into-entries.new.table ≡ 256 = search rules in
     (omega (arith, w.0), omega (arith, w.1))
 
 pub returns : goal.returns

@@ -1,4 +1,3 @@
-use Prim.Native.Nat.{◌-◌}
 use native.Mathlib.Omega.{arith}
 use Rattle.model.specs.Sets.{memb}
 use Rattle.model.proofs.Counts.{ones_start, ones_next, ones_whole, ones_within}

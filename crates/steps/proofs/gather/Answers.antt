@@ -1,18 +1,23 @@
-use Prim.Native.Nat.{◌-◌}
 use native.Mathlib.Omega.{arith}
 use mathlib.Core.Path.{◌∙◌}
-use mathlib.Core.Logic.{⊎_elim}
 use Rattle.model.specs.Sets.{memb, image}
 use Rattle.model.proofs.Bytes.{fill_start, fill_done}
 use Rattle.steps.proofs.Loops.{reach, gathered, gather_store, gather_skip}
 use Rattle.steps.proofs.gather.Goals as goal
+use Rattle.steps.proofs.gather.Goals.{then-p-y, else-p-y}
 
 pub loop-y-init : goal.loop-y-init
 loop-y-init c = (omega arith, fill_start 256 _)
 
 pub loop-y-preserved : goal.loop-y-preserved
 unfolding memb
-loop-y-preserved c = (omega arith, ⊎_elim (λ w. w.2 ∙ gather_store _ _ _ _ _ _ _ c.loop-y.invariant.1 c.wide-p.ensures.0 c.loop-y-test.true _ w.0.taken (omega arith) w.1.ensures) (λ w. w.1 ∙ gather_skip _ _ _ _ _ _ _ c.loop-y.invariant.1 c.wide-p.ensures.0 c.loop-y-test.true w.0.left) c.if-p-y.branch)
+loop-y-preserved c = (
+  omega arith,
+  elim c.if-p-y.branch [
+    | then-p-y w ↦ w.r-is ∙ gather_store _ _ _ _ _ _ _ c.loop-y.invariant.1 c.wide-p.ensures.0 c.loop-y-test.true _ w.if-p-y.true (omega arith) w.byte.ensures
+    | else-p-y w ↦ w.r-is ∙ gather_skip _ _ _ _ _ _ _ c.loop-y.invariant.1 c.wide-p.ensures.0 c.loop-y-test.true w.if-p-y.false
+  ],
+)
 
 pub returns : goal.returns
 unfolding image reach gathered

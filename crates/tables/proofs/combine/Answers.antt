@@ -1,4 +1,3 @@
-use Prim.Native.Nat.{◌-◌}
 use native.Mathlib.Omega.{arith}
 use Rattle.tables.proofs.Tables.{front_start, combine_more, combine_end}
 use Rattle.tables.proofs.combine.Goals as goal

@@ -1,4 +1,3 @@
-use Prim.Native.Nat.{◌-◌}
 use native.Mathlib.Omega.{arith}
 use Rattle.tables.proofs.Tables.{front_start, filter_more, filter_end}
 use Rattle.tables.proofs.filter.Goals as goal

@@ -1,4 +1,3 @@
-use Prim.Native.Nat.{◌-◌}
 use native.Mathlib.Omega.{arith}
 use Rattle.tables.proofs.Tables.{rows_start, rows_end, keep_more}
 use Rattle.tables.proofs.keep.Goals as goal

@@ -1,6 +1,6 @@
 use borrow.Author.Rules.{rules}
 use native.Mathlib.Omega.{arith}
-use Prim.Native.Nat.{◌-◌, ◌<◌}
+use Prim.Native.Nat.{◌<◌}
 use Rattle.tree.proofs.Siblings.{siblings_start, siblings_more, siblings_done, children_start, children_more, parent_fits}
 use Rattle.tree.proofs.previous_siblings.Goals as goal
 

@@ -1,6 +1,5 @@
 use borrow.Author.Rules.{rules}
 use native.Mathlib.Omega.{arith}
-use Prim.Native.Nat.{◌-◌}
 use Rattle.words.proofs.Scanning.{alike_start, text_ends, word_ends, bytes_differ, bytes_agree}
 use Rattle.words.proofs.alike.Goals as goal
 

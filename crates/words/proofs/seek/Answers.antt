@@ -1,6 +1,6 @@
 use borrow.Author.Rules.{rules}
 use native.Mathlib.Omega.{arith}
-use Prim.Native.Nat.{ℕ, ◌-◌, ◌%◌}
+use Prim.Native.Nat.{ℕ, ◌%◌}
 use mathlib.Core.Path.{refl, ap}
 use Rattle.words.proofs.Scanning.{word_found, word_missed, words_end}
 use Rattle.words.proofs.seek.Goals as goal

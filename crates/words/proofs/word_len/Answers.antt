@@ -3,10 +3,6 @@ use Rattle.words.proofs.Scanning.{table_length}
 use borrow.Author.Rules.{rules}
 use Rattle.words.proofs.word_len.Goals as goal
 
--- UNKNOWN NEED array-read-wide
--- array-read-wide : tie.Need-array-read-wide
--- array-read-wide c = search rules
-
 pub returns : goal.returns
 unfolding word_table
 returns c = table_length _ _ (search rules) c.wide.ensures.0

@@ -13,4 +13,4 @@ pub bounds-words-at-4 : goal.bounds-words-at-4
 bounds-words-at-4 c = simp length-set (omega arith)
 
 pub returns : goal.returns
-returns c = put_four _ c.args.t3 _ c.requires.1 c.requires.0
+returns c = put_four _ c.args.r _ c.requires.1 c.requires.0

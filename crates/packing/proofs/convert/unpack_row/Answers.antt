@@ -1,4 +1,3 @@
-use Prim.Native.Nat.{◌-◌}
 use native.Mathlib.Omega.{arith}
 use Rattle.packing.proofs.Rows.{part_start, part_length, part_done, part_word}
 use Rattle.packing.proofs.convert.unpack_row.Goals as goal

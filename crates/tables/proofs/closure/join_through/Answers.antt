@@ -1,4 +1,3 @@
-use Prim.Native.Nat.{◌-◌}
 use native.Mathlib.Omega.{arith}
 use Rattle.tables.proofs.Tables.{rows_start, rows_end}
 use Rattle.tables.proofs.Closing.{rows_joined}

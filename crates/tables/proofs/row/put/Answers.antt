@@ -13,4 +13,4 @@ pub bounds-w-at-4 : goal.bounds-w-at-4
 bounds-w-at-4 c = simp length-set (omega arith)
 
 pub returns : goal.returns
-returns c = put_row _ c.args.t3 _ c.requires.0
+returns c = put_row _ c.args.r _ c.requires.0

@@ -1,5 +1,5 @@
 -- `texts::damage::fill` is safe and ends.
-use Rattle.std.proofs.Common.{◌-◌, length}
+use Rattle.std.proofs.Common.{◌-◌}
 use Rattle.texts.proofs.damage.fill.Given as goal
 
 abbrev pub invariant-loop-k : goal.invariant-loop-k
