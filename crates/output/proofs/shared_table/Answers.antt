@@ -9,7 +9,7 @@ pub slice_bounds-widen-end : goal.slice_bounds-widen-end
 slice_bounds-widen-end c = sym (length-take-le _ _ (search rules))
 
 pub widen-requires : goal.widen-requires
-widen-requires c = (omega (arith, slice-aggregate-widen c.before, c.requires.1.0), search rules)
+widen-requires c = let e = length-take-le c.args.tree.count c.decode-2.new.out (search rules) in (omega (arith, e, c.requires.1.0), search rules)
 
 pub returns : goal.returns
 returns c = search (table_widened, rules)
