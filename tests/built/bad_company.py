@@ -1,5 +1,5 @@
 #!/usr/bin/env python3
-"""The program that rt ci built, in bad company, through ./picklist: outputs that fail, are full, take a part, are slow or
+"""The program in bad company, through ./picklist: outputs that fail, are full, take a part, are slow or
 lose their reader, and inputs that fail or are slow. Each run is held to its status and to what it wrote: all of it with
 status 0 and 1, with 2 the beginning, and nothing where a read failed. And the script: its arguments, and where it stands."""
 import fcntl, itertools, os, resource, select, signal, socket, subprocess, sys, tempfile, time
@@ -7,10 +7,9 @@ sys.dont_write_bytecode = True
 HERE = os.path.dirname(os.path.abspath(__file__))
 sys.path[:0] = [os.path.join(HERE, "..", "support"), os.path.join(HERE, "..", "..", "examples")]
 import make
-from repository import ROOT, end
+from repository import PROGRAM, ROOT, build_program, end
 
 SCRIPT = os.path.join(ROOT, "picklist")
-PROGRAM = os.path.join(ROOT, "target", "bin", "picklist")
 FULL = os.path.join(os.sep, "dev", "full")
 LIMIT = 300  # seconds, after which a run counts as one that hangs
 PAGE = 4096  # bytes of the smallest pipe
@@ -270,7 +269,7 @@ def places(folder):
 
 def other_programs(folder):
     """A copy of the script beside programs that tell no status, and beside none, where the program is first to be built."""
-    script, program = kept(folder, "picklist", open(SCRIPT, "rb").read(), 0o755), os.path.join("target", "bin", "picklist")
+    script, program = kept(folder, "picklist", open(SCRIPT, "rb").read(), 0o755), os.path.relpath(PROGRAM, ROOT)
     env = dict(os.environ, PATH=os.path.join(folder, "tools") + os.pathsep + os.environ["PATH"], BUILT=PROGRAM)
 
     def attempt(name, status, wanted, complaint):
@@ -284,10 +283,11 @@ def other_programs(folder):
     os.remove(os.path.join(folder, program))
     kept(folder, os.path.join("tools", "rt"), b"#!/bin/sh\necho not proved\nexit 1\n", 0o755)
     attempt("cannot be built", 2, b"", b"the program could not be built\n")
-    kept(folder, os.path.join("tools", "rt"), b'#!/bin/sh\necho "$@"\ncp "$BUILT" target/bin\n', 0o755)
-    attempt("is first built", 0, ROWS, b"check picklist\n")
+    kept(folder, os.path.join("tools", "rt"), b'#!/bin/sh\necho "$@" >&2\ncp "$BUILT" out\n', 0o755)
+    attempt("is first built", 0, ROWS, b"run\n")
 
 
+build_program()
 statuses()
 told()
 slow_inputs()

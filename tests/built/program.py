@@ -1,5 +1,5 @@
 #!/usr/bin/env python3
-"""The program that rt ci built, run on the examples and on a table of jobs of both forms, sound and damaged, and held to every byte
+"""The program, run on the examples and on a table of jobs of both forms, sound and damaged, and held to every byte
 that it should print. What a damaged job is refused with is worked out by hand; the answers of a sound one come from the separate
 evaluator of tests/support, or are told by a formula."""
 import itertools, os, random, subprocess, sys
@@ -7,9 +7,8 @@ sys.dont_write_bytecode = True
 HERE = os.path.dirname(os.path.abspath(__file__))
 sys.path[:0] = [os.path.join(HERE, "..", "support"), os.path.join(HERE, "..", "..", "examples")]
 import make, reference
-from repository import ROOT, end
+from repository import PROGRAM, ROOT, build_program, end
 
-PROGRAM = os.path.join(ROOT, "target", "bin", "picklist")
 EXAMPLES = os.path.join(ROOT, "examples")
 problems = []
 
@@ -583,6 +582,7 @@ def inputs():
     compare("an input that cannot be read", folder.stdout, b"")
 
 
+build_program()
 for name, bytes_of, wanted in FILES:
     compare(name, printed(bytes_of), wanted)
 for name, tree, query, columns, wanted in TABLES:

@@ -11,7 +11,7 @@ LINK = re.compile(r"\[[^\]]*\]\(([^)\s]+)\)")
 QUOTED = re.compile(r"`((?:crates|docs|tests|bench|include|examples)/[\w./-]*)`")
 FUNCTION = re.compile(r"`(%s)::(\w+)[`(<]" % "|".join(crates()))
 EDIT = re.compile(r"`((?:%s)/\w+)`" % "|".join(crates()))
-LAW = re.compile(r"\b((?:specs|proofs)/[\w/]+\.antt)(?:: ([\w'′!-]+))?")
+LAW = re.compile(r"\b((?:specs|proofs)/[\w/]+\.antt)(?:: ([\w'!-]+))?")
 
 
 def there(path):
@@ -54,7 +54,7 @@ for path in files(".antt", ".rt", under="crates"):
             file = os.path.join(crate, file)
             if not there(file):
                 problems.append("%s: no %s" % (path, file))
-            elif name and not re.search(r"^ *(?:abbrev |unfoldable )?(?:pub )?%s :" % re.escape(name), read(file), re.M):
+            elif name and not re.search(r"^ *(?:(?:pattern|unfoldable|abbrev|pub) )*%s(?: \{[^{}]*\})? :" % re.escape(name), read(file), re.M):
                 problems.append("%s: %s declares no %s" % (path, file, name))
 traced = EDIT.findall(read("docs/TRACEABILITY.md"))
 for path in files(".edit", under="crates"):

@@ -1,13 +1,13 @@
 #!/usr/bin/env python3
-"""Nothing is left open or assumed: no hole in a specification or a proof, neither axiom of antt, no C function declared."""
+"""Nothing is left open or assumed: no hole in a specification or a proof, no axiom, neither antt's own nor one declared, no C function declared."""
 import os, re, sys
 sys.dont_write_bytecode = True
 sys.path.insert(0, os.path.join(os.path.dirname(__file__), "..", "support"))
 from repository import end, files, read, uncommented, word
 
 HOLE = re.compile(r"(?:^|[\s({=])\?[\w-]*(?=$|[\s)},;])")
-AXIOMS = [word("lem"), word("ac"), re.compile(r"Prim\.Axiom")]
-FOREIGN = re.compile(r'^\s*extern\s+"C"\s*\{')
+AXIOMS = [word("lem"), word("ac"), re.compile(r"Prim\.Axiom"), re.compile(r"^\s*(?:pub )?axiom\b")]
+FOREIGN = re.compile(r'^\s*(?:unsafe\s+)?extern\s+"C"\s*\{')
 
 problems = []
 for path in files(".antt", under="crates"):

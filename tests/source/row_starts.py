@@ -26,7 +26,7 @@ from declared import Fault, cited, reached
 from places import Writer, returns_table, writes_bytes
 from repository import end, services
 
-TABLE = "pairsBytes"  # the definition of a relation table's bytes
+TABLE = "pairs_bytes"  # the definition of a relation table's bytes
 NO_TABLE = {"PieceLeaves"}  # the definition by which a contract says that the bytes are the lines that the program prints
 OPERAND = re.compile(r"[\w)\]'\"]$")
 SUM = {"+", "-", "+=", "-=", "=", "(", ")", ",", ";", ":", "&", "*", "let", "mut", "as", "return"}
@@ -210,7 +210,7 @@ fn added_cells(row: &mut [u8], n: usize)
 """
 USED = "\nuse model::wide;\n\n"
 SERVICES = {
-    "terminal": {"crates/terminal/src/lib.rt": USED + '#[no_mangle]\npub extern "C" ' + SERVICE},
+    "terminal": {"crates/terminal/src/lib.rt": USED + '#[unsafe(no_mangle)]\npub extern "C" ' + SERVICE},
     "images": {"crates/images/src/lib.rt": USED + "pub " + SERVICE, "tests/services.txt": "images added\n"},
 }
 

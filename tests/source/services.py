@@ -1,24 +1,26 @@
 #!/usr/bin/env python3
 """Every service, the functions of tests/services.txt and all that is exported to C, takes any input and settles its outcome: it
-is public and has no `requires`, and its `ensures` settles the reply and what is left in each `&mut` parameter.
+is public and has no `requires`, and its `ensures` settle the reply and what is left in each `&mut` parameter.
 
 A clause of an `ensures` settles a value if it gives it outright by a definition of a specs/ folder: it equates the value with one
-(r ≡ DEFINITION ..) or lends it to one as an argument of its own (DEFINITION .. r ..), and speaks of an outcome nowhere else.
+(result ≡ DEFINITION ..) or lends it to one as an argument of its own (DEFINITION .. result ..), and speaks of an outcome nowhere else.
 Every parameter occurs in such a clause: a contract that ignores one does not settle the outcome. The rules are first tried on
 small contracts that break them (BROKEN); each must be refused."""
 import os, re, sys
 sys.dont_write_bytecode = True
 sys.path.insert(0, os.path.join(os.path.dirname(__file__), "..", "support"))
 import declared, statements
-from repository import end
+from repository import end, uncommented
 
-ENSURES = re.compile(r"\bensures \{ λ (\w+)\.\s*⌜(.*)⌝ \}\s*$", re.S)
+ENSURES = re.compile(r"^ +ensures(?: \w+)? \{([^{}]*)\}$", re.M)
+CLAUSE = re.compile(r"^ +(?:requires|ensures)\b", re.M)
+RESULT = "result"
 
 
 def term(text):
     """A text as nested lists, a list for what stands in brackets; a field behind something is a list of the two."""
     open_lists = [[]]
-    for piece in re.findall(r"[()]|[^\s()]+", text):
+    for piece in re.findall(r"[()]|\.[^\s().]+|[^\s().]+", text):
         if piece == "(":
             open_lists.append([])
         elif piece == ")":
@@ -52,23 +54,20 @@ def clauses(parts):
 class Contract:
     def __init__(self, lines, definitions, fields):
         """A function's signature and clauses, the definitions of specs/ that its file uses, and the fields of what it returns."""
-        self.text, self.definitions, self.fields = "\n".join(lines), definitions, fields
-        self.ensures = ENSURES.search(self.text)
+        self.text, self.definitions, self.fields = "\n".join(uncommented("\n".join(lines), "//")), definitions, fields
+        self.ensures = ENSURES.findall(self.text)
         self.parameters, self.returned = declared.signature(lines)
-        self.result = self.ensures and self.ensures[1]
 
     def outcome(self, part):
         """The name and the field of the outcome that a part is: the result, or a parameter at exit. None for any other part."""
-        if isinstance(part, list) and part[0] == "now" and len(part) == 2:
-            return self.outcome(part[1])
-        if isinstance(part, list) and len(part) == 2 and part[1] == ".exit" and part[0] in self.parameters:
+        if isinstance(part, list) and len(part) == 2 and part[1] == ".new" and part[0] in self.parameters:
             return part[0], None
-        if isinstance(part, list) and len(part) == 2 and part[0] == self.result:
-            return self.result, part[1][1:]
-        return (self.result, None) if part == self.result else None
+        if isinstance(part, list) and len(part) == 2 and part[0] == RESULT and part[1].startswith("."):
+            return RESULT, part[1][1:]
+        return (RESULT, None) if part == RESULT else None
 
     def speaks(self, part):
-        return bool({self.result, ".exit"} & set(words(part)))
+        return bool({RESULT, ".new", ".exit"} & set(words(part)))
 
     def settled(self, clause):
         """The outcomes that a clause settles."""
@@ -87,13 +86,13 @@ class Contract:
     def faults(self):
         if re.search(r"^\s+requires\b", self.text, re.M):
             yield "has a `requires`"
-        if not self.ensures:
-            yield "has no `ensures` of the form λ r. ⌜ .. ⌝"
+        if not self.ensures or len(self.ensures) != len(CLAUSE.findall(self.text)):
+            yield "has no `ensures`, or a clause that cannot be read"
             return
-        settling = [(c, self.settled(c)) for c in clauses(term(self.ensures[2]))]
+        settling = [(c, self.settled(c)) for text in self.ensures for c in clauses(term(text))]
         values = {value for _, some in settling for value in some}
-        parts = {(self.result, f) for f in self.fields}
-        if self.returned and (self.result, None) not in values and not (parts and parts <= values):
+        parts = {(RESULT, f) for f in self.fields}
+        if self.returned and (RESULT, None) not in values and not (parts and parts <= values):
             yield "has no clause that gives its reply by a definition of specs/"
         for name, kind in self.parameters.items():
             if re.match(r"&('\w+ )?mut\b", kind) and (name, None) not in values:
@@ -110,35 +109,40 @@ def contract(item):
     return Contract(item.statement, definitions, fields)
 
 
-# Parameters, and what `ensures` says of the result r: none settles its outcome.
+# Parameters, and what each `ensures` says: none settles the outcome.
 BROKEN = [
-    ("tree: &[u16]", "r ≡ r"),
-    ("tree: &[u16]", "r .number ≡ r .number"),
-    ("tree: &[u16]", "r ≡ verdict []"),
-    ("tree: &[u16]", "r .number ≡ verdict (treeChecks (now (tree .entry))) .number"),
-    ("tree: &[u16]", "r ≡ length (now (tree .entry))"),
-    ("tree: &[u16]", "verdict (treeChecks (now (tree .entry))) ≡ verdict (treeChecks (now (tree .entry)))"),
-    ("tree: &[u16]", "(r ≡ r) × (verdict (treeChecks (now (tree .entry))) ≡ verdict (treeChecks (now (tree .entry))))"),
-    ("tree: &[u16]", "r ≡ reply (r .number) (length (now (tree .entry)))"),
-    ("tree: &[u16]", "r .number ≤ length (treeChecks (now (tree .entry)))"),
-    ("tree: &[u16], columns: usize", "r ≡ verdict (treeChecks (now (tree .entry)))"),
-    ("from: &[u8], to: &mut [u8]", "r ≡ imageReply (now (from .entry)) (now (to .entry))"),
-    ("from: &[u8], to: &mut [u8]", "ImageLeaves (now (from .entry)) (now (to .entry)) r (now (to .entry))"),
-    ("from: &[u8], to: &mut [u8]", "ImageLeaves (now (from .entry)) (now (to .exit)) r (length (now (to .exit)))"),
-    ("from: &[u8], to: &mut [u8]", "(r ≡ imageReply (now (from .entry)) (now (to .entry))) × (now (to .exit) ≡ now (to .exit))"),
-    ("from: &[u8], to: &mut [u8]", "ImageLeaves (now (to .entry)) r (now (to .exit))"),
+    ("tree: &[u16]", "result ≡ result"),
+    ("tree: &[u16]", "result.number ≡ result.number"),
+    ("tree: &[u16]", "result ≡ verdict []"),
+    ("tree: &[u16]", "result.number ≡ (verdict (tree_checks tree.now)).number"),
+    ("tree: &[u16]", "result ≡ length tree.now"),
+    ("tree: &[u16]", "verdict (tree_checks tree.now) ≡ verdict (tree_checks tree.now)"),
+    ("tree: &[u16]", "(result ≡ result) × (verdict (tree_checks tree.now) ≡ verdict (tree_checks tree.now))"),
+    ("tree: &[u16]", "result ≡ result", "verdict (tree_checks tree.now) ≡ verdict (tree_checks tree.now)"),
+    ("tree: &[u16]", "result ≡ reply result.number (length tree.now)"),
+    ("tree: &[u16]", "result.number ≤ length (tree_checks tree.now)"),
+    ("tree: &[u16], columns: usize", "result ≡ verdict (tree_checks tree.now)"),
+    ("from: &[u8], to: &mut [u8]", "result ≡ image_reply from.now to.old"),
+    ("from: &[u8], to: &mut [u8]", "ImageLeaves from.now to.old result to.old"),
+    ("from: &[u8], to: &mut [u8]", "ImageLeaves from.now to.new result (length to.new)"),
+    ("from: &[u8], to: &mut [u8]", "(result ≡ image_reply from.now to.old) × (to.new ≡ to.new)"),
+    ("from: &[u8], to: &mut [u8]", "result ≡ image_reply from.now to.old", "to.new ≡ to.new"),
+    ("from: &[u8], to: &mut [u8]", "ImageLeaves to.old result to.new"),
+    ("from: &[u8], to: &mut [u8]", "ImageLeaves from.now to.old result to.exit"),
 ]
 SOUND = [
-    ("tree: &[u16]", "r ≡ verdict (treeChecks (now (tree .entry)))"),
-    ("from: &[u8], to: &mut [u8]", "ImageLeaves (now (from .entry)) (now (to .entry)) r (now (to .exit))"),
-    ("from: &[u8], to: &mut [u8]", "ImageLeaves (now (from .entry)) (now (to .entry)) (r .number) (r .place) (now (to .exit))"),
+    ("tree: &[u16]", "result ≡ verdict (tree_checks tree.now)"),
+    ("from: &[u8], to: &mut [u8]", "ImageLeaves from.now to.old result to.new"),
+    ("from: &[u8], to: &mut [u8]", "ImageLeaves from.now to.old result.number result.place to.new"),
+    ("from: &[u8], to: &mut [u8]", "result ≡ image_reply from.now to.old", "to.new ≡ reply\n        from.now\n        to.old"),
 ]
-NAMES = {"verdict", "treeChecks", "reply", "imageReply", "ImageLeaves"}
+NAMES = {"verdict", "tree_checks", "reply", "image_reply", "ImageLeaves"}
 
 
-def tried(parameters, says):
-    lines = ["pub fn f(%s) -> Reply" % parameters, "    ensures { λ r. ⌜ %s ⌝ }" % says]
-    return list(Contract(lines, NAMES, ["number", "place"]).faults())
+def tried(parameters, *says):
+    names = ["", " second"]
+    lines = ["pub fn f(%s) -> Reply" % parameters] + ["    ensures%s { %s }" % pair for pair in zip(names, says)]
+    return list(Contract("\n".join(lines).split("\n"), NAMES, ["number", "place"]).faults())
 
 
 problems = ["the rules let this pass: %s" % (c,) for c in BROKEN if not tried(*c)]

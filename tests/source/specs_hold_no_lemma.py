@@ -5,7 +5,7 @@ sys.dont_write_bytecode = True
 sys.path.insert(0, os.path.join(os.path.dirname(__file__), "..", "support"))
 from repository import end, files, read, uncommented
 
-DECLARED = re.compile(r"^ *(?:abbrev |unfoldable )?(?:pub )?(\S+) : (.*)")
+DECLARED = re.compile(r"^ *(?:(?:pattern|unfoldable|abbrev|pub) )*(\S+)(?: \{[^{}]*\})? :((?: .*)?)$")
 BLOCK = re.compile(r"^ *(?:pub )?(record|data)\b.*\bwhere$")
 
 

@@ -7,13 +7,13 @@ import re
 
 from repository import ROOT, crates, files, read, uncommented
 
-NAMED = re.compile(r"(?:abbrev |unfoldable )?(pub )?(?:(record|data) (\S+)|(\S+) :(?: |$))")
+NAMED = re.compile(r"(?:(?:pattern|unfoldable|abbrev) )*(pub )?(?:(record|data) (\S+)|(\S+)(?: \{[^{}]*\})? :(?: |$))")
 CASE = re.compile(r"^ +(\S+) : ", re.M)
-IMPORT = re.compile(r"^(?:ghost |pub )?use ([\w·.-]+?)(?:\.\{([^}]*)\}| as (\S+?))?;?$", re.M)
-MODULE = re.compile(r"Rattle·(\w+)(?:·\w+)?\.(specs|proofs)\.(.+)")
+IMPORT = re.compile(r"^(?:ghost |pub )?use ([\w.']+?)(?:\.\{([^}]*)\}| as (\S+?))?;?$", re.M)
+MODULE = re.compile(r"Rattle\.(\w+)\.(specs|proofs)\.(.+)")
 ITEM = re.compile(r'(pub )?(?:extern "C" )?(fn|struct|enum|type|const) (\w+)')
 EXPORTED = re.compile(r'\bextern "C" fn\b|^ *#\[.*\b(?:no_mangle|export_name)\b')
-WORD = re.compile(r"[^\s(){};,⌜⌝]+")
+WORD = re.compile(r"[^\s(){};,]+")
 CLAUSE = re.compile(r"^    (requires|ensures)\b", re.M)
 TYPE = re.compile(r"(?:\b(\w+)::)?\b([A-Z]\w*)")
 SIGNATURE = re.compile(r"\bfn \w+(?:<[^>]*>)?\((.*?)\)(?: -> ([^{]*?))?\s*(?=requires\b|ensures\b|$)", re.S)
@@ -144,14 +144,29 @@ def types(text, path):
     return [the_type(before if before in crates() else own, name) for before, name in TYPE.findall(UNTYPED.sub("", text))]
 
 
+def is_ours(module):
+    """Whether a module is one of the repository's, and none of the toolchain's."""
+    found = re.match(r"Rattle\.(\w+)\b", module)
+    return bool(found) and found[1] in crates()
+
+
+def listed_names(listed):
+    """The names that an import lists, each with what the file calls it."""
+    for one in (part.split() for part in listed.split(",")):
+        if len(one) not in (0, 1, 3) or one[1:2] not in ([], ["as"]):
+            raise Fault("cannot read the import '%s'" % " ".join(one))
+        if one:
+            yield one[0], one[-1]
+
+
 def imported(module, name):
-    """What a name of a Rattle module stands for. A type of the source is declared in `declared`."""
+    """What a name of a module of the repository stands for. A type of the source is declared in `declared`."""
     found = MODULE.fullmatch(module)
     if not found:
         raise Fault("cannot read the module %s" % module)
     crate, folder, (file, *rest) = found[1], found[2], found[3].split(".")
     if file == "declared":
-        return the_type(crate, [part for part in rest if part != "the-variants"][-1])
+        return the_type(crate, [part for part in rest if part != "TheVariants"][-1])
     return the("crates/%s/%s/%s.antt" % (crate, folder, file), name)
 
 
@@ -161,12 +176,12 @@ def scope(path):
     that it uses by another name."""
     names, modules = {}, {}
     for module, listed, alias in IMPORT.findall(read(path)):
-        if not module.startswith("Rattle·"):
+        if not is_ours(module):
             continue
         if not listed:
             modules[alias or module.split(".")[-1]] = module
-        for name in re.findall(r"[^\s,]+", listed):
-            names[name] = imported(module, name)
+        for name, here in listed_names(listed):
+            names[here] = imported(module, name)
     for item in items(path) if path.endswith(".antt") else []:
         names.update({name: item for name in [item.name] + item.cases})
     return names, modules
@@ -182,7 +197,9 @@ def spoken(text, path):
             yield names[word]
         elif alias in modules and rest:
             yield imported(modules[alias], rest.split(".")[0])
-        elif word.startswith("Rattle·"):
+        elif alias in names:
+            yield names[alias]  # and its field
+        elif is_ours(word):
             yield imported(*word.rsplit(".", 1))
 
 
@@ -194,16 +211,16 @@ def said(item, whole):
 
 def borrowed(item, whole=False):
     """The names of the toolchain's libraries in a statement or a whole declaration, each with its module."""
-    words = set(WORD.findall(said(item, whole)))
+    words = {part for word in WORD.findall(said(item, whole)) for part in (word, word.partition(".")[0])}
     for module, listed, alias in IMPORT.findall(read(item.path)):
-        for name in re.findall(r"[^\s,]+", listed):
-            if not module.startswith("Rattle·") and {name, name.strip("_")} & words:
+        for name, here in listed_names(listed):
+            if not is_ours(module) and {here, here.strip("◌")} & words:
                 yield module, name
 
 
 def cited(item, whole=False):
     """What a statement, or with its body the whole declaration, cites: each once, in the order of first mention."""
-    text = said(item, whole)
+    text = re.sub(r"\b(requires|ensures) \w+ \{", r"\1 {", said(item, whole))  # a clause's name is no word of it
     if item.path.endswith(".antt"):
         found = spoken(text, item.path)
     else:

@@ -1,16 +1,18 @@
-"""What the tests of the source share: the files of the repository, its crates, and how a test ends."""
+"""What the tests share: the files of the repository, its crates, the program, and how a test ends."""
 import os
 import re
+import subprocess
 import sys
 
 ROOT = os.path.dirname(os.path.dirname(os.path.dirname(os.path.abspath(__file__))))
+PROGRAM = os.path.join(ROOT, "crates", "picklist", "out", "picklist")
 
 
 def files(*suffixes, under=""):
     """The paths, from the root, of all files with one of these suffixes; of all files where none is given."""
     found = []
     for folder, folders, names in os.walk(os.path.join(ROOT, under)):
-        folders[:] = [f for f in folders if f not in (".git", "target", "__pycache__")]
+        folders[:] = [f for f in folders if f not in (".git", "target", "out", "__pycache__")]
         found += [os.path.relpath(os.path.join(folder, n), ROOT) for n in names if not suffixes or n.endswith(suffixes)]
     return sorted(found)
 
@@ -26,12 +28,12 @@ def uncommented(text, mark):
 
 
 def crates():
-    """The crates of crates.txt in its order, each with its dependencies."""
+    """The crates of crates.txt in its order, each with its dependencies. What stands behind a name says what kind of crate it is."""
     listed = {}
     for line in uncommented(read("crates.txt"), "#"):
         if line:
-            name, deps = line.split(":", 1)
-            listed[name.strip()] = deps.split()
+            head, deps = line.split(":", 1)
+            listed[head.split()[0]] = deps.split()
     return listed
 
 
@@ -44,8 +46,17 @@ def services(read=read):
 
 
 def word(name):
-    """A pattern for an identifier on its own; those of specs and proofs may hold hyphens."""
-    return re.compile(r"(?<![\w'′-])%s(?![\w'′-])" % re.escape(name))
+    """A pattern for an identifier on its own; those of specs and proofs may hold primes."""
+    return re.compile(r"(?<![\w'])%s(?![\w'])" % re.escape(name))
+
+
+def build_program():
+    """Has rt build the program where rt ci has not left it; what is proved already is not proved again."""
+    if not os.access(PROGRAM, os.X_OK):
+        folder = os.path.join(ROOT, "crates", "picklist")
+        subprocess.run(["rt", "run"], cwd=folder, stdin=subprocess.DEVNULL, stdout=subprocess.DEVNULL)
+    if not os.access(PROGRAM, os.X_OK):
+        end(["the program is not built: %s" % os.path.relpath(PROGRAM, ROOT)])
 
 
 def end(problems):

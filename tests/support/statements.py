@@ -21,12 +21,13 @@ every theorem and law that [TRACEABILITY.md](TRACEABILITY.md) names, in its orde
 with their files, and at the end the text of every definition that any of them rests on. Proofs are not shown: the gate checks
 them.
 
-How to read it. In a contract, the name behind `λ` is the result, `now (x .entry)` is what a lent slice or record holds as the call
-begins and `now (x .exit)` what it holds as the call returns; what is lent without `mut` cannot change, and a parameter by value
-stands for itself. A law that stands in a `module` holds for all that the module's head names. Most of the notation is told at the
-head of [Sets.antt](../crates/model/specs/Sets.antt). Beside that, `P ↔ Q` says that each of the two follows from the other,
-`P ⊎ Q` that one of them holds; `Unit` always holds and `⊥` never. `map f l` has f of each element of l, `replicate n x` is x n
-times, and `ptr r .0` and `ptr r .1` are the block of memory that a slice r points into, and where.
+How to read it. In a contract, `result` is what the function returns, and a clause may have a name before its brace. `x.now` is what
+a slice or record that is lent to be read holds; of one that is lent with `mut`, `x.old` is what it holds as the call begins and
+`x.new` what it holds as the call returns. A parameter by value stands for itself. A law that stands in a `module` holds for all that
+the module's head names. Most of the notation is told at the head of [Sets.antt](../crates/model/specs/Sets.antt). Beside that, `P ↔ Q`
+says that each of the two follows from the other, `P ⊎ Q` that one of them holds; `Unit` always holds and `⊥` never. `map f l` has f of
+each element of l, `replicate n x` is x n times, and `Bor` is a slice as it is lent: `r.ref_ptr.0` and `r.ref_ptr.1` are the block of
+memory that it points into, and where.
 
 This file is written from the source by `tests/support/statements.py`, and a test of the gate fails where the two differ. So for
 every change the diff of this file is the list of the promises that moved: run the script, and read the diff.

@@ -1,5 +1,5 @@
 -- The grammar before node() could be typed (document 02, §5), when no star came behind a bracket and there was no 'same' either (§9).
--- It is here for one theorem alone (reader: proofs/Theorems.antt, read-as-before).
+-- It is here for one theorem alone (reader: proofs/Theorems.antt, read_as_before).
 use Rattle.std.specs.Prelude.{Bool, true, false, ◌&&◌}
 use Rattle.grammar.specs.Grammar.{Expr, Op}
 use Rattle.grammar.specs.Grammar.Wildcard.{star, node}

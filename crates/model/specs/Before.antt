@@ -1,6 +1,6 @@
 -- What services replied before a document node could be stored (document 02, §5) and before the kinds star and `same` (§9), for one theorem
 -- alone: without such a node, the test node() and those kinds, every service that is lent a query replies as before (proofs/Unchanged.antt:
--- replies-as-before). What is said here of services is the text of their definitions, over what they take from a tree and a query.
+-- replies_as_before). What is said here of services is the text of their definitions, over what they take from a tree and a query.
 use Rattle.std.specs.Prelude.{ℕ, ◌*◌, ◌≡◌, Bool, false, ◌&&◌, ◌||◌, cond, List, [], ◌∷◌, ◌++◌, ltb, eqb, length}
 use Rattle.model.specs.declared.Cursor.{Cursor}
 use Rattle.model.specs.declared.Entry.{Entry}

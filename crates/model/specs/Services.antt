@@ -56,7 +56,7 @@ page_outcome t q columns c buffer =
     judged (verdict (page_checks t q columns c (length buffer))) columns (answers t q columns) c buffer
 
 -- the outcome of a quick page call (document 02, §7): of a query that keeps the rule, that of a page call (proofs/Quick.antt:
--- rule-plain)
+-- rule_plain)
 unfoldable pub quick_outcome : List ℕ → List ℕ → ℕ → Cursor → List ℕ → Outcome
 quick_outcome t q columns c buffer =
     judged (verdict (quick_checks t q columns c (length buffer))) columns (answers t q columns) c buffer

@@ -101,7 +101,7 @@ abbrev mutual
 abbrev pub any_node : Path
 any_node = from_root (step 11 65534)
 
--- and for `. is` such a variable: `self::node()`, which holds at every node (proofs/Exactness.antt: all-hold)
+-- and for `. is` such a variable: `self::node()`, which holds at every node (proofs/Exactness.antt: all_hold)
 abbrev pub everywhere : NodeExpr
 everywhere = exists (step 0 65534)
 
