@@ -79,11 +79,11 @@ examples =
     ∷ []
 
 -- each reading is the grammar's, looks as the text does, and stands for the path
-pub examples-hold :
+pub examples_hold :
     map {B = Bool × List ℕ × Path} (λ (x : Example). (fits 0 false x.reading, print x.reading, path_of x.reading length)) examples
     ≡ map {B = Bool × List ℕ × Path} (λ (x : Example). (true, x.text, x.path)) examples
 unfolding examples fits elem axes axis_word variables is_name name_bytes all_name print path_by below_by expr_by
-examples-hold = refl
+examples_hold = refl
 
 -- a text, and the place of its refusal
 pub record Refusal : Type 0 where
