@@ -1,5 +1,5 @@
 -- Laws of words as sets of bits, to which all reasoning about bits comes down. Every operation on words is one on the tests of their
--- bits: word-or, word_and, word-not, word-one, test-shift, test-without; a word is the word of its own bits: word-bits.
+-- bits: word_or, word_and, word_not, word_one, test_shift, test_without; a word is the word of its own bits: word_bits.
 use Prim.Native.Nat.{ℕ, zero, suc, ◌+◌, ◌-◌, ◌*◌, ◌/◌, ◌%◌, ◌^◌, ◌≤◌, ◌<◌, min, max}
 use native.Mathlib.Nat.{not-suc-le-zero, le_of_suc-le-suc, lt_of_lt_of_le, pow-suc, add-zero, add-suc, div-add-mod', div-one, div-eq_of_lt, zero-div, add_comm}
 use native.Mathlib.Numerals.{one-add, add-one}

@@ -4,9 +4,10 @@
 -- `pub`, `abbrev` and `unfoldable` only tell the prover who may use a name and how. `suc n` is n + 1. `[]` is the empty list,
 -- `x ∷ xs` is xs with x in front, and `++` joins lists; `length l` is the number of elements, `take k l` the first k of them and
 -- `drop k l` the rest; `get_or l i d` is element i of l, or d past its end. `ltb x y`, `leb x y` and `eqb x y` are the tests x < y,
--- x ≤ y and x = y; `&&`, `||` and `not` join tests; `cond b x y` is x if b, else y. `λ x. e` takes x to e. `record { a = x; .. }`
--- makes a record, and `t.size` is a field of t. Where a type is a statement, `x ≡ y` says that the two are equal,
--- `(x : A) → P` that P holds for every x, `(x : A) × P` that it holds for some x, and `P × Q` that both hold.
+-- x ≤ y and x = y, and so are `nat_lt x y` for the first and `x == y` for the last; `&&`, `||` and `not` join tests; `cond b x y` is x
+-- if b, else y. `λ x. e` takes x to e. `record { a = x; .. }` makes a record, and `t.size` is a field of t. Where a type is a
+-- statement, `x ≡ y` says that the two are equal, `(x : A) → P` that P holds for every x, `(x : A) × P` that it holds for some x, and
+-- `P × Q` that both hold.
 use Rattle.std.specs.Prelude.{ℕ, zero, suc, ◌+◌, Bool, true, false, not, ◌&&◌, ◌||◌, List, [], ◌∷◌, get_or, ltb, eqb}
 
 -- some number below n passes f: 'there is a node' (proofs/Exists.antt: any_iff)

@@ -1,6 +1,7 @@
 // The image of a node set under a step, for every axis by a fixed number of passes along two links: the parent, and the
 // previous sibling. A link is a lower number than its node's, so that one pass serves for any number of hops too.
-// Every function here is O(n).
+// Every function here is O(n). The two passes are kept out of the frames and the code of what calls them: the C header promises how
+// much stack a call takes, and how large the archive is.
 #![tactic(auto)]
 
 ghost use Rattle.std.specs.Prelude.{◌≡◌, true, ◌*◌, ◌≤◌, ◌<◌, length, eqb};
@@ -12,6 +13,7 @@ ghost use Rattle.steps.specs.Moves.{along, star, forward, passes_all, Linked};
 
 // From each node to those whose link it is; by one hop or more where closed is set. One pass: the byte of the link is final
 // before it is read.
+#[inline(never)]
 fn gather(link: &[u16], n: usize, closed: bool, from: [u8; 256]) -> [u8; 256]
     requires { (n ≤ 256) × (2 * n ≤ length link.now) }
     ensures { result ≡ tab 256 (image n (along closed (links link.now)) (memb from)) }
@@ -30,6 +32,7 @@ fn gather(link: &[u16], n: usize, closed: bool, from: [u8; 256]) -> [u8; 256]
 
 // From each node to its link; by one hop or more where closed is set. One pass from the last node down: a node's byte is
 // final before its link is set.
+#[inline(never)]
 fn scatter(link: &[u16], n: usize, closed: bool, from: [u8; 256]) -> [u8; 256]
     requires { (n ≤ 256) × (2 * n ≤ length link.now) }
     ensures { result ≡ tab 256 (image n (turn true (along closed (links link.now))) (memb from)) }
