@@ -587,7 +587,7 @@ gz_quick_reply gz_quick_page(const uint16_t *tree, size_t tree_len, uint16_t par
 
 /* The name of a tag. Refusals 21 and 22; both tables are looked at before the tag. Accepted, *name is the part of the house's
    or the site's table that is the name, without its length byte; refused, *name is the empty part at the start of the
-   house's table. What *name held before is not read. Time in proportion to the tables' lengths. */
+   house's table, at whatever address where that was lent as NULL. What *name held before is not read. Time in proportion to the tables' lengths. */
 gz_reply gz_name(const uint8_t *house, size_t house_len, const uint8_t *site, size_t site_len, uint16_t tag, gz_part *name);
 
 /* The query table of a typed query, with the names of the house's and the site's table. Refusals 21, 23, 24, 25, 26 and 20, in

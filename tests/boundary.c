@@ -1508,7 +1508,8 @@ static void name(const char *what, const uint8_t *h, size_t h_len, const uint8_t
     } out = {PATTERN, {site, 3}, PATTERN};
     gz_reply r = gz_name(h, h_len, s, s_len, tag, &out.part);
     expect(r.number == number && r.place == place, "gz_name", what, "reply");
-    expect(out.part.start == start && out.part.length == length, "gz_name", what, "part");
+    /* of a table that is lent as NULL the empty part may start anywhere */
+    expect((start == NULL || out.part.start == start) && out.part.length == length, "gz_name", what, "part");
     expect(out.before == PATTERN && out.behind == PATTERN, "gz_name", what, "memory beside the part");
 }
 
