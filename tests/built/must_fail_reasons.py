@@ -11,7 +11,10 @@ from repository import ROOT, end, read
 LOG = os.path.join("target", "ci.log")
 TRIED = re.compile(r"^rt: must-fail (\w+)/([\w.-]+)\.edit: (.*)$", re.M)
 REFUSED = re.compile(r"refused, as it must be(?: \((only .*?)\))?: (?:note: )?(\S+): (.*)")
-UNFIT = re.compile(r"that can be named from here|has no field|was not admitted")
+# (of a goal that is gone; what rt ci shows of a complaint is cut short, and may not come to what is missing)
+UNFIT = re.compile(r"that can be named from here|has no field|was not admitted|is not in scope|`(?:goal|Given|Goals)\.")
+# a complaint that is cut before it says what fails
+UNTOLD = re.compile(r"error: `[^`]*(?:`:? ?`?[\w.]*)?")
 UNFIT_LAW = re.compile(r"is not in scope|no occurrence of")
 
 problems = []
@@ -25,7 +28,7 @@ for edit in sorted(glob.glob(os.path.join(ROOT, "crates", "*", "must-fail", "*.e
         problems.append("%s/%s: %s" % (*name, said.get(name, "not tried, %s does not tell of it" % LOG)))
         continue
     only, place, what = told[1] or "", told[2], told[3]
-    if "names what the edit took away" in only or UNFIT.search(what):
+    if "names what the edit took away" in only or UNFIT.search(what) or UNTOLD.fullmatch(what):
         problems.append("%s/%s: no fact of the edited code is what first fails: %s: %s" % (*name, place, what))
     elif "file: specs/" in read(edit) and (place.startswith("specs/") or UNFIT_LAW.search(what)):
         problems.append("%s/%s: no law is what first fails: %s: %s" % (*name, place, what))

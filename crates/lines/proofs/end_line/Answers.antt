@@ -2,10 +2,6 @@
 use Rattle.lines.proofs.Rows.{end_fits, wrote_end}
 use Rattle.lines.proofs.end_line.Goals as goal
 
--- UNKNOWN NEED slice-aggregate-put-bytes
--- slice-aggregate-put-bytes : tie.Need-slice-aggregate-put-bytes
--- slice-aggregate-put-bytes c = search rules
-
 pub put_field-requires : goal.put_field-requires
 put_field-requires c = end_fits _ _ _ _ _ c.ranges.n.fits c.requires c.put_bytes-word.ensures
 

@@ -2,10 +2,6 @@
 use Rattle.lines.proofs.Rows.{refused_fits, place_fits, wrote_refused}
 use Rattle.lines.proofs.refused_line.Goals as goal
 
--- UNKNOWN NEED slice-aggregate-put-bytes
--- slice-aggregate-put-bytes : tie.Need-slice-aggregate-put-bytes
--- slice-aggregate-put-bytes c = search rules
-
 pub put_field-next-requires : goal.put_field-next-requires
 put_field-next-requires c = refused_fits _ _ _ _ _ _ c.wide-number.ensures.1 c.wide-place.ensures.1 c.requires c.put_bytes-word.ensures
 
