@@ -5,10 +5,11 @@ use mathlib.Core.Path.{◌≡◌, refl, sym, ap, ◌∙◌}
 use mathlib.Core.Bool.{Bool, true, false, cond, ◌&&◌}
 use mathlib.Core.List.{List, [], ◌∷◌, ◌++◌}
 use lib.Dec.{ltb, eqb}
-use lib.ListN.{length, drop}
+use lib.ListN.{length, drop, get_or}
 use borrow.Author.Tests.{le-ltb, eqb-true, eq-eqb, ne_eqb}
+use Rattle.std.specs.Prelude.{Result, Ok, Err}
 use Rattle.model.specs.Sets.{any}
-use Rattle.model.specs.Refusals.{Check, lowest, refuse_here, refuse_at, reply, counting, making, verdict, written, refused}
+use Rattle.model.specs.Refusals.{Check, lowest, refuse_here, refuse_at, reply, counting, making, verdict, written, refused, told}
 use Rattle.model.specs.Services.{Leaves, leaving}
 use Rattle.model.specs.declared.refusal.Refusal.{Refusal}
 use Rattle.model.specs.declared.refusal.Refusal.TheVariants.{JobLength, JobMark, JobPart, JobOverlap, TreeSize, BadParent, ReservedTag, QueryLength, VariableCount, UnknownKind, BadField, LateOperand, WrongSort, Misused, NoPath, NodeCount, NoNode, SetLength, BadByte, Room, NameTable, NoName, TextLength, Ungrammatical, UnknownName, TooManyEntries, BadIndex, StrayBit, SharedVariable, BadOwner, UnknownParty, NoStart}
@@ -219,3 +220,79 @@ stop_err a b e p = stop_all a b (refused e) p (refused_some e)
 -- where the first checks let through, the others decide
 pub pass_ok : (a b : List Check) (r : Reply) → r ≡ verdict b → reply 0 0 ≡ verdict a → numbered a ≡ true → r ≡ verdict (a ++ b)
 pass_ok a b r q p n = pass_all a b (reply 0 0) r q p refl n
+
+-- no two results of a check come to the same reply: what a reply tells is read back
+
+pub read_back : Reply → Result Unit Refusal
+read_back r =
+    get_or
+    (Ok tt
+    ∷ Err JobLength
+    ∷ Err JobMark
+    ∷ Err (JobPart r.place)
+    ∷ Err JobOverlap
+    ∷ Err TreeSize
+    ∷ Err (BadParent r.place)
+    ∷ Err (ReservedTag r.place)
+    ∷ Err QueryLength
+    ∷ Err VariableCount
+    ∷ Err (UnknownKind r.place)
+    ∷ Err (BadField r.place)
+    ∷ Err (LateOperand r.place)
+    ∷ Err (WrongSort r.place)
+    ∷ Err (Misused r.place)
+    ∷ Err (NoPath r.place)
+    ∷ Err NodeCount
+    ∷ Err (NoNode r.place)
+    ∷ Err SetLength
+    ∷ Err (BadByte r.place)
+    ∷ Err Room
+    ∷ Err (NameTable r.place)
+    ∷ Err NoName
+    ∷ Err TextLength
+    ∷ Err (Ungrammatical r.place)
+    ∷ Err (UnknownName r.place)
+    ∷ Err TooManyEntries
+    ∷ Err (BadIndex r.place)
+    ∷ Err (StrayBit r.place)
+    ∷ Err (SharedVariable r.place)
+    ∷ Err (BadOwner r.place)
+    ∷ Err UnknownParty
+    ∷ [])
+    r.number
+    (Err NoStart)
+
+pub told_once : (r : Result Unit Refusal) → read_back (told r) ≡ r
+told_once (Ok u) = refl
+told_once (Err JobLength) = refl
+told_once (Err JobMark) = refl
+told_once (Err (JobPart x)) = refl
+told_once (Err JobOverlap) = refl
+told_once (Err TreeSize) = refl
+told_once (Err (BadParent x)) = refl
+told_once (Err (ReservedTag x)) = refl
+told_once (Err QueryLength) = refl
+told_once (Err VariableCount) = refl
+told_once (Err (UnknownKind x)) = refl
+told_once (Err (BadField x)) = refl
+told_once (Err (LateOperand x)) = refl
+told_once (Err (WrongSort x)) = refl
+told_once (Err (Misused x)) = refl
+told_once (Err (NoPath x)) = refl
+told_once (Err NodeCount) = refl
+told_once (Err (NoNode x)) = refl
+told_once (Err SetLength) = refl
+told_once (Err (BadByte x)) = refl
+told_once (Err Room) = refl
+told_once (Err (NameTable x)) = refl
+told_once (Err NoName) = refl
+told_once (Err TextLength) = refl
+told_once (Err (Ungrammatical x)) = refl
+told_once (Err (UnknownName x)) = refl
+told_once (Err TooManyEntries) = refl
+told_once (Err (BadIndex x)) = refl
+told_once (Err (StrayBit x)) = refl
+told_once (Err (SharedVariable x)) = refl
+told_once (Err (BadOwner x)) = refl
+told_once (Err UnknownParty) = refl
+told_once (Err NoStart) = refl
