@@ -263,6 +263,7 @@ read_back r =
     (Err NoStart)
 
 pub told_once : (r : Result Unit Refusal) → read_back (told r) ≡ r
+unfolding read_back
 told_once (Ok u) = refl
 told_once (Err JobLength) = refl
 told_once (Err JobMark) = refl
