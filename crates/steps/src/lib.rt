@@ -68,7 +68,7 @@ fn self_image(n: usize, back: bool, from: [u8; 256]) -> [u8; 256]
     ensures { result ≡ tab 256 (image n (turn back eqb) (memb from)) }
 {
     let all = sets::full(n);
-    sets::combined(sets::INTERSECTION, all, from)
+    sets::combined(sets::Operation::Intersection, all, from)
 }
 
 // No hop, one or more.
@@ -78,7 +78,7 @@ fn star_image(link: &[u16], n: usize, back: bool, from: [u8; 256]) -> [u8; 256]
 {
     let a = self_image(n, back, from);
     let b = link_image(link, n, true, back, from);
-    sets::combined(sets::UNION, a, b)
+    sets::combined(sets::Operation::Union, a, b)
 }
 
 // Following, or its converse, preceding: up or stay, along the siblings, down or stay. Three passes.
@@ -185,11 +185,11 @@ fn step_image(
     }
     let s = named(tree, name);
     if back {
-        let m = sets::combined(sets::INTERSECTION, from, s);
+        let m = sets::combined(sets::Operation::Intersection, from, s);
         return axis_image(tree, prev, a, true, m);
     }
     let m = axis_image(tree, prev, a, false, from);
-    sets::combined(sets::INTERSECTION, m, s)
+    sets::combined(sets::Operation::Intersection, m, s)
 }
 
 // The image under a step or its converse, and how many nodes it has.

@@ -43,10 +43,10 @@ pub fn join(r: [u64; 4], w: &[u64], z: usize) -> [u64; 4]
     ensures { result ≡ words 4 (joined_row r w.now z) }
 {
     let at = 4 * z;
-    let a = crate::word::merge(sets::UNION, r[0], w[at]);
-    let b = crate::word::merge(sets::UNION, r[1], w[at + 1]);
-    let c = crate::word::merge(sets::UNION, r[2], w[at + 2]);
-    let d = crate::word::merge(sets::UNION, r[3], w[at + 3]);
+    let a = crate::word::merge(sets::Operation::Union, r[0], w[at]);
+    let b = crate::word::merge(sets::Operation::Union, r[1], w[at + 1]);
+    let c = crate::word::merge(sets::Operation::Union, r[2], w[at + 2]);
+    let d = crate::word::merge(sets::Operation::Union, r[3], w[at + 3]);
     [a, b, c, d]
 }
 
