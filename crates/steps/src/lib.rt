@@ -19,13 +19,11 @@ fn gather(link: &[u16], n: usize, closed: bool, from: [u8; 256]) -> [u8; 256]
     ensures { result ≡ tab 256 (image n (along closed (links link.now)) (memb from)) }
 {
     let mut r = [0u8; 256];
-    let mut y = 0;
-    while y < n {
+    for y in 0..n {
         let p = model::wide(link[2 * y]);
         if p < y {
             r[y] = sets::byte((from[p] != 0) | (closed & (r[p] != 0)));
         }
-        y += 1;
     }
     r
 }
@@ -38,15 +36,12 @@ fn scatter(link: &[u16], n: usize, closed: bool, from: [u8; 256]) -> [u8; 256]
     ensures { result ≡ tab 256 (image n (turn true (along closed (links link.now))) (memb from)) }
 {
     let mut r = [0u8; 256];
-    let mut i = n;
-    while 0 < i {
-        let y = i - 1;
+    for y in (0..n).rev() {
         let p = model::wide(link[2 * y]);
         let sends = (p < y) & ((from[y] != 0) | (closed & (r[y] != 0)));
         if sends {
             r[p] = 1;
         }
-        i = y;
     }
     r
 }
@@ -157,10 +152,8 @@ fn named(tree: &[u16], name: usize) -> [u8; 256]
 {
     let n = tree.len() / 2;
     let mut r = [0u8; 256];
-    let mut y = 0;
-    while y < n {
+    for y in 0..n {
         r[y] = sets::byte(matches_tag(name, tree::tag(tree, y)));
-        y += 1;
     }
     r
 }

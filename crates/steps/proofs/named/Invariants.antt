@@ -7,6 +7,3 @@ use Rattle.steps.proofs.named.Given as goal
 
 abbrev pub invariant-loop-y : goal.invariant-loop-y
 invariant-loop-y l = (l.y ≤ l.n) × ((l.n ≡ size_of l.tree) × (l.r ≡ tab 256 (upto l.y (passes (tree_of l.tree) l.name))))
-
-abbrev pub decreases-loop-y : goal.decreases-loop-y
-decreases-loop-y l = l.n - l.y
