@@ -8,8 +8,11 @@ ghost use Rattle.std.specs.Prelude.{◌≡◌, true, ◌*◌, ◌≤◌, ◌<◌
 ghost use Rattle.model.specs.Sets.{tab, ones, memb, upto, turn, image};
 ghost use Rattle.model.specs.Tree.{tree_of, size_of};
 ghost use Rattle.model.specs.Axes.{following, axis, matches, passes, steps};
+ghost use Rattle.model.specs.Numbers.{axis_number};
 ghost use Rattle.tree.specs.Links.{links};
-ghost use Rattle.steps.specs.Moves.{along, star, forward, passes_all, Linked};
+ghost use Rattle.steps.specs.Moves.{along, star, forward, is_converse, pair_of, passes_all, Linked};
+
+use model::Axis;
 
 // From each node to those whose link it is; by one hop or more where closed is set. One pass: the byte of the link is final
 // before it is read.
@@ -88,45 +91,51 @@ fn following_image(tree: &[u16], prev: &[u16], back: bool, from: [u8; 256]) -> [
     star_image(tree, n, false, b)
 }
 
-// A forward axis, by half of its code rounded up, or its converse.
-fn forward_image(tree: &[u16], prev: &[u16], h: usize, back: bool, from: [u8; 256]) -> [u8; 256]
-    requires { Linked tree.now prev.now × (h ≤ 6) }
-    ensures { result
-        ≡ tab 256 (image (size_of tree.now) (turn back (forward (tree_of tree.now) h)) (memb from)) }
+// Whether an axis is the converse of a forward one: the axes with an even number are, a node itself being its own.
+pub fn is_converse(a: Axis) -> bool
+    ensures { result ≡ is_converse (axis_number a) }
 {
-    let n = tree.len() / 2;
-    if h == 0 {
-        return self_image(n, back, from);
-    }
-    if h == 1 {
-        return link_image(tree, n, false, back, from);
-    }
-    if h == 2 {
-        return link_image(prev, n, false, back, from);
-    }
-    if h == 3 {
-        return link_image(tree, n, true, back, from);
-    }
-    if h == 4 {
-        return following_image(tree, prev, back, from);
-    }
-    if h == 5 {
-        return link_image(prev, n, true, back, from);
-    }
-    star_image(tree, n, back, from)
+    matches!(
+        a,
+        Axis::Itself
+            | Axis::Parent
+            | Axis::Left
+            | Axis::Ancestor
+            | Axis::Preceding
+            | Axis::PrecedingSibling
+            | Axis::AncestorOrSelf
+    )
 }
 
-// An axis by its code, or its converse: an even code is the converse of the forward axis beside it.
-fn axis_image(tree: &[u16], prev: &[u16], a: usize, back: bool, from: [u8; 256]) -> [u8; 256]
-    requires { Linked tree.now prev.now × (a ≤ 12) }
+// The forward axis of a pair of converses, or, where the flag is set, its converse.
+fn forward_image(tree: &[u16], prev: &[u16], a: Axis, back: bool, from: [u8; 256]) -> [u8; 256]
+    requires { Linked tree.now prev.now }
     ensures { result
-        ≡ tab 256 (image (size_of tree.now) (turn back (axis (tree_of tree.now) a)) (memb from)) }
+        ≡ tab 256 (image (size_of tree.now) (turn back (forward (tree_of tree.now) (pair_of (axis_number a)))) (memb from)) }
 {
-    let h = (a + 1) / 2;
-    if a % 2 == 0 {
-        return forward_image(tree, prev, h, !back, from);
+    let n = tree.len() / 2;
+    match a {
+        Axis::Itself => self_image(n, back, from),
+        Axis::Child | Axis::Parent => link_image(tree, n, false, back, from),
+        Axis::Right | Axis::Left => link_image(prev, n, false, back, from),
+        Axis::Descendant | Axis::Ancestor => link_image(tree, n, true, back, from),
+        Axis::Following | Axis::Preceding => following_image(tree, prev, back, from),
+        Axis::FollowingSibling | Axis::PrecedingSibling => link_image(prev, n, true, back, from),
+        Axis::DescendantOrSelf | Axis::AncestorOrSelf => star_image(tree, n, back, from),
     }
-    forward_image(tree, prev, h, back, from)
+}
+
+// An axis, or its converse.
+fn axis_image(tree: &[u16], prev: &[u16], a: Axis, back: bool, from: [u8; 256]) -> [u8; 256]
+    requires { Linked tree.now prev.now }
+    ensures { result
+        ≡ tab 256 (image (size_of tree.now) (turn back (axis (tree_of tree.now) (axis_number a))) (memb from)) }
+{
+    let turned = is_converse(a);
+    if turned {
+        return forward_image(tree, prev, a, !back, from);
+    }
+    forward_image(tree, prev, a, back, from)
 }
 
 // Whether every node passes the name test: node() in each tree, the star where node 0 is no document node.
@@ -158,19 +167,19 @@ fn named(tree: &[u16], name: usize) -> [u8; 256]
     r
 }
 
-// The image under a step, by the code of its axis and its name test, or under the step's converse: forwards the test cuts the
+// The image under a step, by its axis and its name test, or under the step's converse: forwards the test cuts the
 // image, backwards the set. Where every node passes, nothing is cut.
 fn step_image(
     tree: &[u16],
     prev: &[u16],
-    a: usize,
+    a: Axis,
     name: usize,
     back: bool,
     from: [u8; 256],
 ) -> [u8; 256]
-    requires { Linked tree.now prev.now × (a ≤ 12) }
+    requires { Linked tree.now prev.now }
     ensures { result
-        ≡ tab 256 (image (size_of tree.now) (turn back (steps (tree_of tree.now) a name)) (memb from)) }
+        ≡ tab 256 (image (size_of tree.now) (turn back (steps (tree_of tree.now) (axis_number a) name)) (memb from)) }
 {
     let all = passes_all(tree, name);
     if all {
@@ -189,15 +198,15 @@ fn step_image(
 pub fn step(
     tree: &[u16],
     prev: &[u16],
-    a: usize,
+    a: Axis,
     name: usize,
     back: bool,
     from: [u8; 256],
     count: &mut usize,
 ) -> [u8; 256]
-    requires { Linked tree.now prev.now × (a ≤ 12) }
+    requires { Linked tree.now prev.now }
     ensures { (result
-        ≡ tab 256 (image (size_of tree.now) (turn back (steps (tree_of tree.now) a name)) (memb from)))
+        ≡ tab 256 (image (size_of tree.now) (turn back (steps (tree_of tree.now) (axis_number a) name)) (memb from)))
         × (count.new ≡ ones result) }
 {
     let r = step_image(tree, prev, a, name, back, from);
