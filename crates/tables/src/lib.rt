@@ -21,9 +21,7 @@ pub fn copy(to: &mut [u64], from: &[u64], n: usize)
     requires { (n ≤ 256) × ((4 * n ≤ length to.old) × (4 * n ≤ length from.now)) }
     ensures { Becomes n (bit_relation from.now) to.old to.new }
 {
-    for i in 0..4 * n {
-        to[i] = from[i];
-    }
+    to[..4 * n].copy_from_slice(&from[..4 * n]);
 }
 
 // A kept table and the one at hand combined: the kept one is the first operand, or the second where the flag is set. One pass over
