@@ -10,16 +10,15 @@ use lib.ListN.{length, get_or}
 use lib.Dec.{ltb, eqb}
 use borrow.Author.Tests.{lt-ltb, ltb-true, ltb-false, eq-eqb, eqb-true, eqb-false}
 use Rattle.model.specs.declared.Entry.{Entry}
+use Rattle.model.specs.declared.kind.Kind.{Kind}
+use Rattle.model.specs.declared.kind.Kind.TheVariants.{Step, Compose, Union, Intersect, Except, Filter, Variable, Root, Exists, Not, And, Or, Is, Star, Same}
+use Rattle.model.specs.Numbers.{kind_number}
 use Rattle.model.specs.Tree.{size_of}
 use Rattle.model.specs.QueryTable.{kind, entry, entries_of}
 use Rattle.model.specs.Kinds.{is_path, left_path, left_expr, right_path, right_expr, names_variable}
 use Rattle.model.specs.Results.{assigned}
 use Rattle.model.proofs.Booleans.{both_yes, or_left, or_right, or_cases, no_or}
 use Rattle.model.proofs.KindTests.{is_path_by, left_expr_by, right_expr_by}
-use Rattle.eval.specs.declared.base.Kind.{Kind}
-use Rattle.eval.specs.declared.base.Kind.TheVariants as V
-use Rattle.eval.specs.declared.base.Kind.TheVariants.{Step, Compose, Union, Intersect, Except, Filter, Variable, Root, Not, And, Or, Is, Star, Same}
-use Rattle.eval.specs.Base.{kind_number}
 use Rattle.eval.specs.Evaluation.{Ready, Sorted}
 
 pub kind_at : {f g : Entry} → f ≡ g → f.kind ≡ g.kind
@@ -27,7 +26,7 @@ kind_at p = ap (λ (f : Entry). f.kind) p
 
 -- the kind that has a number
 numbered : ℕ → Kind
-numbered n = get_or (Step ∷ Compose ∷ Union ∷ Intersect ∷ Except ∷ Filter ∷ Variable ∷ Root ∷ V.Some ∷ Not ∷ And ∷ Or ∷ Is ∷ Star ∷ []) n Same
+numbered n = get_or (Step ∷ Compose ∷ Union ∷ Intersect ∷ Except ∷ Filter ∷ Variable ∷ Root ∷ Exists ∷ Not ∷ And ∷ Or ∷ Is ∷ Star ∷ []) n Same
 
 numbered_back : (k : Kind) → numbered (kind_number k) ≡ k
 unfolding numbered
@@ -39,7 +38,7 @@ numbered_back Except = refl
 numbered_back Filter = refl
 numbered_back Variable = refl
 numbered_back Root = refl
-numbered_back V.Some = refl
+numbered_back Exists = refl
 numbered_back Not = refl
 numbered_back And = refl
 numbered_back Or = refl

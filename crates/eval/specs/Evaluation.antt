@@ -1,5 +1,6 @@
 -- What the evaluator asks for, and what it gives: node sets as 256 bytes.
 use Rattle.std.specs.Prelude.{ℕ, ◌-◌, ◌≤◌, ◌<◌, ◌≡◌, Bool, List}
+use Rattle.model.specs.declared.Call.{Call}
 use Rattle.model.specs.Sets.{tab, memb, upto, image}
 use Rattle.model.specs.Tree.{tree_of, size_of}
 use Rattle.model.specs.Meaning.{holds}
@@ -9,7 +10,6 @@ use Rattle.model.specs.Results.{assigned, related}
 use Rattle.model.specs.Accepted.{Evaluable}
 use Rattle.sets.specs.NodeSets.{combination}
 use Rattle.steps.specs.Moves.{Linked}
-use Rattle.eval.specs.declared.base.Call.{Call}
 
 -- a tree with its links, and a query that can be evaluated over it under an assignment
 pub record Ready (t prev q nodes : List ℕ) : Type 0 where

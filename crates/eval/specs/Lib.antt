@@ -1,2 +1,1 @@
-pub mod Base
 pub mod Evaluation

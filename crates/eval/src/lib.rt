@@ -17,9 +17,7 @@ ghost use Rattle.model.specs.Results.{assigned};
 ghost use Rattle.sets.specs.NodeSets.{only};
 ghost use Rattle.eval.specs.Evaluation.{ReadyFor, KindIn, SortIn, passed_for, reached_for, row_for, joined_for, ending};
 
-mod base;
-
-use base::Kind;
+use model::{Call, Kind};
 
 // The node of variable k, as a set.
 fn variable(nodes: &[u16], k: usize) -> [u8; 256]
@@ -63,21 +61,19 @@ fn ending_image(
 // What a set reaches by the path at entry e, or what reaches the set where back is set. Of a composition the operand at the
 // side of the set goes first. The test of a filter holds at the end node: forwards it cuts the image, backwards the set.
 #[cycle(by_rows_ends_node_operands_path_same_star)]
-pub fn path(
-    call: &base::Call,
-    e: usize,
-    back: bool,
-    from: [u8; 256],
-    count: &mut usize,
-) -> [u8; 256]
+pub fn path(call: &Call, e: usize, back: bool, from: [u8; 256], count: &mut usize) -> [u8; 256]
     requires { ReadyFor call.now × SortIn call.now e true }
     ensures { (result ≡ reached_for call.now e back from) × (count.new ≡ ones result) }
 {
     let f = query::entry_at(call.query, e);
-    match base::kind_of(f.kind) {
+    match model::kind_of(f.kind) {
         Kind::Step => steps::step(call.tree, call.prev, f.left, f.tag, back, from, count),
         Kind::Compose => {
-            let (first, second) = if back { (f.right, f.left) } else { (f.left, f.right) };
+            let (first, second) = if back {
+                (f.right, f.left)
+            } else {
+                (f.left, f.right)
+            };
             let m = path(call, first, back, from, count);
             path(call, second, back, m, count)
         }
@@ -103,14 +99,14 @@ pub fn path(
 
 // The nodes where the node expression at entry e holds.
 #[cycle(by_rows_ends_node_operands_path_same_star)]
-pub fn node(call: &base::Call, e: usize, count: &mut usize) -> [u8; 256]
+pub fn node(call: &Call, e: usize, count: &mut usize) -> [u8; 256]
     requires { ReadyFor call.now × SortIn call.now e false }
     ensures { (result ≡ passed_for call.now e) × (count.new ≡ ones result) }
 {
     let n = call.tree.len() / 2;
     let f = query::entry_at(call.query, e);
-    match base::kind_of(f.kind) {
-        Kind::Some => {
+    match model::kind_of(f.kind) {
+        Kind::Exists => {
             let all = sets::full(n);
             path(call, f.left, true, all, count)
         }
@@ -143,13 +139,7 @@ pub fn node(call: &base::Call, e: usize, count: &mut usize) -> [u8; 256]
 // `path` without it takes less stack.
 #[cycle(by_rows_ends_node_operands_path_same_star)]
 #[inline(never)]
-fn operands(
-    call: &base::Call,
-    e: usize,
-    back: bool,
-    from: [u8; 256],
-    count: &mut usize,
-) -> [u8; 256]
+fn operands(call: &Call, e: usize, back: bool, from: [u8; 256], count: &mut usize) -> [u8; 256]
     requires { ReadyFor call.now × KindIn call.now e 2 4 }
     ensures { (result ≡ joined_for call.now e back from) × (count.new ≡ ones result) }
 {
@@ -162,13 +152,7 @@ fn operands(
 
 // An intersect or except, one start node after the other.
 #[cycle(by_rows_ends_node_operands_path_same_star)]
-fn by_rows(
-    call: &base::Call,
-    e: usize,
-    back: bool,
-    from: [u8; 256],
-    count: &mut usize,
-) -> [u8; 256]
+fn by_rows(call: &Call, e: usize, back: bool, from: [u8; 256], count: &mut usize) -> [u8; 256]
     requires { ReadyFor call.now × KindIn call.now e 3 4 }
     ensures { (result ≡ reached_for call.now e back from) × (count.new ≡ ones result) }
 {
@@ -189,12 +173,12 @@ fn by_rows(
 // The nodes at which a variable or a path from the root ends, from any start. It has a frame of its own, as operands has.
 #[cycle(by_rows_ends_node_operands_path_same_star)]
 #[inline(never)]
-fn ends(call: &base::Call, e: usize, count: &mut usize) -> [u8; 256]
+fn ends(call: &Call, e: usize, count: &mut usize) -> [u8; 256]
     requires { ReadyFor call.now × KindIn call.now e 6 7 }
     ensures { (result ≡ row_for call.now e false 0) × (count.new ≡ ones result) }
 {
     let f = query::entry_at(call.query, e);
-    match base::kind_of(f.kind) {
+    match model::kind_of(f.kind) {
         Kind::Variable => {
             *count = 1;
             variable(call.nodes, f.left)
@@ -210,13 +194,7 @@ fn ends(call: &base::Call, e: usize, count: &mut usize) -> [u8; 256]
 // A star: from the nodes found last the operand is followed on, until it finds none that is new. At most n rounds, since each but the last
 // finds a node more, and each node is followed from once.
 #[cycle(by_rows_ends_node_operands_path_same_star)]
-fn star(
-    call: &base::Call,
-    e: usize,
-    back: bool,
-    from: [u8; 256],
-    count: &mut usize,
-) -> [u8; 256]
+fn star(call: &Call, e: usize, back: bool, from: [u8; 256], count: &mut usize) -> [u8; 256]
     requires { ReadyFor call.now × KindIn call.now e 13 13 }
     ensures { (result ≡ reached_for call.now e back from) × (count.new ≡ ones result) }
 {
@@ -243,7 +221,7 @@ fn star(
 // The nodes from which both operands of a `same` reach some one node: one start node after the other, since from more than one
 // they might reach it from different ones.
 #[cycle(by_rows_ends_node_operands_path_same_star)]
-fn same(call: &base::Call, e: usize, count: &mut usize) -> [u8; 256]
+fn same(call: &Call, e: usize, count: &mut usize) -> [u8; 256]
     requires { ReadyFor call.now × KindIn call.now e 14 14 }
     ensures { (result ≡ passed_for call.now e) × (count.new ≡ ones result) }
 {

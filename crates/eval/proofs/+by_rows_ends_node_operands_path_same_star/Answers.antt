@@ -1,5 +1,4 @@
 use native.Mathlib.Omega.{arith}
-use mathlib.Core.Logic.{◌⊎◌}
 use mathlib.Core.Bool.{cond}
 use mathlib.Core.Path.{◌≡◌, refl, ap, ◌∙◌}
 use borrow.Author.Rules.{rules}
@@ -9,7 +8,7 @@ use Rattle.model.proofs.Bytes.{fill_store, fill_done}
 use Rattle.model.proofs.Counts.{ones_bytes}
 use Rattle.eval.specs.Evaluation.{passed, reached}
 use Rattle.model.proofs.KindTests.{path_on_left, path_on_right}
-use Rattle.eval.proofs.Calls.{kind_at, other_kind, one_kind, turned, straight, known_path, known_expr, either_operand, root_on_left, some_on_left, star_on_left, same_on_both, expr_on_left, filter_on_right, expr_on_right, variable_named, is_named_lem, left_path_lem, right_path_lem, left_expr_lem, right_expr_lem, variable_within, variable_node, variable_small, axis_known}
+use Rattle.eval.proofs.Calls.{kind_at, other_kind, one_kind, turned, straight, known_path, known_expr, either_operand, root_on_left, some_on_left, star_on_left, same_on_both, expr_on_left, filter_on_right, expr_on_right, variable_named, is_named_lem, left_path_lem, right_path_lem, left_expr_lem, right_expr_lem, variable_within, variable_node, variable_small}
 use Rattle.eval.proofs.Entries.{did_step, did_compose, did_filter, did_filter_back, rows_start, rows_skip, rows_more, rows_end, row_below, rows_count, did_operands, did_union, variable_one, did_variable, did_root, did_ending, did_exists, did_negate, did_both, did_either, did_is, did_star, same_hit, no_nodes}
 use Rattle.eval.proofs.Growing.{start_within, more, fewer, done}
 use Rattle.eval.proofs.+by_rows_ends_node_operands_path_same_star.Goals as goal
@@ -54,8 +53,8 @@ node-variable-requires t c = let p = c.requires in let f = c.entry_at-f.ensures.
 pub node-node-b-requires : goal.node-node-b-requires
 node-node-b-requires t c = let p = c.requires in let f = c.entry_at-f.ensures.0 in let k = kind_at f in let x = known_expr f p.0 p.1.within p.1.sort in let w = right_expr_lem f p.0 p.1.within (expr_on_right (omega arith) (omega arith)) in (omega (arith, w.lower), (p.0, w.kinds))
 
-pub node-returns-in-Some : goal.node-returns-in-Some
-node-returns-in-Some t c = let p = c.requires in let f = c.entry_at-f.ensures.0 in let k = kind_at f in let h : c.entry_at-f.result.kind ≡ 8 = omega arith in search (did_exists, rules)
+pub node-returns-in-Exists : goal.node-returns-in-Exists
+node-returns-in-Exists t c = let p = c.requires in let f = c.entry_at-f.ensures.0 in let k = kind_at f in let h : c.entry_at-f.result.kind ≡ 8 = omega arith in search (did_exists, rules)
 
 pub node-returns-in-Not : goal.node-returns-in-Not
 node-returns-in-Not t c = let p = c.requires in let f = c.entry_at-f.ensures.0 in let k = kind_at f in let h : c.entry_at-f.result.kind ≡ 9 = omega arith in search (did_negate, rules)
@@ -79,7 +78,7 @@ pub node-node-b-requires-in-Or : goal.node-node-b-requires-in-Or
 node-node-b-requires-in-Or t c = let p = c.requires in let f = c.entry_at-f.ensures.0 in let k = kind_at f in let w = right_expr_lem f p.0 p.1.within (expr_on_right (omega arith) (omega arith)) in (omega (arith, w.lower), (p.0, w.kinds))
 
 pub node-unreachable-requires : goal.node-unreachable-requires
-node-unreachable-requires t c = let p = c.requires in let f = c.entry_at-f.ensures.0 in let k = kind_at f in let m = known_expr f p.0 p.1.within p.1.sort in omega (arith, other_kind c.in_default.not-Some c.kind_of.ensures, other_kind c.in_default.not-Not c.kind_of.ensures, other_kind c.in_default.not-And c.kind_of.ensures, other_kind c.in_default.not-Or c.kind_of.ensures, other_kind c.in_default.not-Is c.kind_of.ensures, other_kind c.in_default.not-Same c.kind_of.ensures)
+node-unreachable-requires t c = let p = c.requires in let f = c.entry_at-f.ensures.0 in let k = kind_at f in let m = known_expr f p.0 p.1.within p.1.sort in omega (arith, other_kind c.in_default.not-Exists c.kind_of.ensures, other_kind c.in_default.not-Not c.kind_of.ensures, other_kind c.in_default.not-And c.kind_of.ensures, other_kind c.in_default.not-Or c.kind_of.ensures, other_kind c.in_default.not-Is c.kind_of.ensures, other_kind c.in_default.not-Same c.kind_of.ensures)
 
 pub operands-path-a-requires : goal.operands-path-a-requires
 operands-path-a-requires t c = let p = c.requires in let f = c.entry_at-f.ensures.0 in let k = kind_at f in let w = left_path_lem f p.0 p.1.within (path_on_left (omega arith) (omega arith)) in (omega (arith, w.lower), (p.0, w.kinds))
