@@ -4,13 +4,13 @@ use native.Mathlib.Omega.{arith}
 use mathlib.Core.Path.{◌≡◌, refl, sym, ap, ap₂, ◌∙◌}
 use mathlib.Core.Logic.{⊎_elim}
 use mathlib.Core.Bool.{Bool, true, false, cond}
-use mathlib.Core.List.{List, [], ◌∷◌}
+use mathlib.Core.List.{List}
 use lib.ListN.{length, get_or}
 use lib.Dec.{ltb}
 use borrow.Author.Tests.{ltb-true, ltb-false, le-ltb}
 use Rattle.model.specs.declared.Entry.{Entry}
 use Rattle.model.specs.declared.kind.Kind.{Kind}
-use Rattle.model.specs.declared.kind.Kind.TheVariants.{Step, Compose, Union, Intersect, Except, Filter, Variable, Root, Exists, Not, And, Or, Is, Star, Same}
+use Rattle.model.specs.declared.kind.Kind.TheVariants.{Union, Except}
 use Rattle.model.specs.Numbers.{kind_number}
 use Rattle.model.specs.Tree.{size_of}
 use Rattle.model.specs.QueryTable.{kind, left, right, entry}
@@ -18,7 +18,7 @@ use Rattle.model.specs.Kinds.{is_path, left_path, left_expr, right_path, right_e
 use Rattle.model.specs.Results.{assigned}
 use Rattle.model.proofs.Booleans.{both_yes, or_left, or_right, yes_left, yes_right}
 use Rattle.model.proofs.KindTests.{path_on_left, path_on_right}
-use Rattle.eval.proofs.Calls.{Operand, same_on_both, left_path_lem, right_path_lem, left_expr_lem, right_expr_lem}
+use Rattle.eval.proofs.Calls.{other_kind, Operand, same_on_both, left_path_lem, right_path_lem, left_expr_lem, right_expr_lem}
 use Rattle.aside.specs.Aside.{aside_at, in_turn, two_tables}
 use Rattle.aside.proofs.Turns.{two_kinds}
 use Rattle.aside.proofs.Entries.{aside_left, aside_right, aside_two}
@@ -88,33 +88,6 @@ module _ {t prev q nodes counts : List ℕ} {room e : ℕ} {path : Bool} {more :
       pub right_index : f.right < length counts
       right_index = omega (arith, (right_path_lem fe a.ready a.kinds.within h).kinds.within, a.few, a.counted.size)
 
--- the kinds that a match leaves
-
--- the kind of a number
-abbrev named : ℕ → Kind
-named n = get_or (Step ∷ Compose ∷ Union ∷ Intersect ∷ Except ∷ Filter ∷ Variable ∷ Root ∷ Exists ∷ Not ∷ And ∷ Or ∷ Is ∷ Star ∷ []) n Same
-
-named_number : (k : Kind) → named (kind_number k) ≡ k
-named_number Step = refl
-named_number Compose = refl
-named_number Union = refl
-named_number Intersect = refl
-named_number Except = refl
-named_number Filter = refl
-named_number Variable = refl
-named_number Root = refl
-named_number Exists = refl
-named_number Not = refl
-named_number And = refl
-named_number Or = refl
-named_number Is = refl
-named_number Star = refl
-named_number Same = refl
-
--- a kind that is not j has not its number
-pub other_kind : (j : Kind) {k : Kind} {n : ℕ} → kind_number k ≡ n → (k ≡ j → ⊥) → n ≡ kind_number j → ⊥
-other_kind j {k} {n} p h e = h (sym (named_number k) ∙ ap named (p ∙ e) ∙ named_number j)
-
 -- one of two numbers by a flag
 pub first_of : (b : Bool) (x y : ℕ) {i : ℕ} → b ≡ true → i ≡ x → i ≡ cond b x y
 first_of b x y h p = rw h p
@@ -128,7 +101,7 @@ operation_left k h l u x = ⊎_elim by_path (λ e. rw e) (two_kinds (kind_number
   where
     by_path : (0 < kind_number k) × (kind_number k < 5) → 1 ≡ operation (kind_number k)
     by_path w =
-        let e : kind_number k ≡ 3 = omega (arith, w.0, w.1, other_kind Union {k = k} refl u, other_kind Except {k = k} refl x) in
+        let e : kind_number k ≡ 3 = omega (arith, w.0, w.1, other_kind u refl, other_kind x refl) in
         rw e
 
 -- the operations on two tables: of a path without room to spare, and of `same`

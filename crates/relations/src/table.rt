@@ -202,11 +202,12 @@ impl<'a> Evaluation<'a> {
                 let b = self.node(room, f.right, acc);
                 tables::set::merged(sets::INTERSECTION, a, b)
             }
-            _ => {
+            Kind::Or => {
                 let a = self.node(room, f.left, acc);
                 let b = self.node(room, f.right, acc);
                 tables::set::merged(sets::UNION, a, b)
             }
+            _ => unreachable!(),
         }
     }
 }

@@ -4,13 +4,12 @@ use mathlib.Core.Bool.{cond}
 use lib.ListN.{get_or}
 use lib.Dec.{ltb}
 use borrow.Author.Tests.{lt-ltb, le-ltb}
-use Rattle.model.specs.declared.kind.Kind.TheVariants.{Step, Compose, Filter, Variable, Root, Exists, Not, And, Is, Star, Same}
 use Rattle.model.proofs.KindTests.{path_on_left, path_on_right}
-use Rattle.eval.proofs.Calls.{known_path, known_expr, root_on_left, some_on_left, star_on_left, expr_on_left, expr_on_right, filter_on_right, variable_named, is_named_lem, variable_within, variable_node, variable_small}
+use Rattle.eval.proofs.Calls.{other_kind, known_path, known_expr, root_on_left, some_on_left, star_on_left, expr_on_left, expr_on_right, filter_on_right, variable_named, is_named_lem, variable_within, variable_node, variable_small}
 use Rattle.relations.specs.Evaluation.{operation}
 use Rattle.relations.proofs.Algebra.{leaves, leaves_on, leaves_none, becomes_on}
 use Rattle.relations.proofs.Entries.{did_step, did_compose, did_filter, did_variable, did_root, did_closure, joined_path, did_tables, did_combine, applied_step, applied_compose, applied_filter, applied_variable, applied_root, did_product, did_exists, did_same, did_negate, did_both, did_either, did_is, did_keep}
-use Rattle.relations.proofs.Calls.{small_tree, ask_left, ask_right, ask_left_expr, ask_right_expr, left_index, other_kind, first_of, second_of, ask_spare, joins_path, joins_same, combining, ask_first, waits, ask_second, held_first, straight_left, straight_right}
+use Rattle.relations.proofs.Calls.{small_tree, ask_left, ask_right, ask_left_expr, ask_right_expr, left_index, first_of, second_of, ask_spare, joins_path, joins_same, combining, ask_first, waits, ask_second, held_first, straight_left, straight_right}
 use Rattle.relations.proofs.table.Evaluation.+tables.Goals as goal
 use Rattle.relations.proofs.table.Evaluation.+tables.Goals.{operands-then-turned, operands-else-turned, second-then-turned, second-else-turned, table-in_default-via-in-Compose+else-from-room, table-in_default-via-in_default}
 
@@ -74,11 +73,17 @@ node-node-a-requires-in-And t c = let a = c.requires in let f = c.entry_at-f.ens
 pub node-node-b-requires : goal.node-node-b-requires
 node-node-b-requires t c = let a = c.requires in let f = c.entry_at-f.ensures.0 in let w = ask_right_expr a f c.node-a-in-And.auto.acc (expr_on_right (omega (arith, c.in-And.ensures)) (omega (arith, c.in-And.ensures))) in (omega (arith, w.0), w.1)
 
-pub node-node-a-requires-in_default : goal.node-node-a-requires-in_default
-node-node-a-requires-in_default t c = let a = c.requires in let f = c.entry_at-f.ensures.0 in let x = known_expr f a.ready a.kinds.within a.kinds.sort in let k : c.entry_at-f.result.kind ≡ 11 = omega (arith, x.0, x.1.0, x.1.1, other_kind Exists c.kind_of.ensures c.in_default.not-Exists, other_kind Not c.kind_of.ensures c.in_default.not-Not, other_kind And c.kind_of.ensures c.in_default.not-And, other_kind Is c.kind_of.ensures c.in_default.not-Is, other_kind Same c.kind_of.ensures c.in_default.not-Same) in let w = ask_left_expr a f refl (expr_on_left (omega arith) (omega arith)) in (omega (arith, w.0), w.1)
+pub node-node-a-requires-in-Or : goal.node-node-a-requires-in-Or
+node-node-a-requires-in-Or t c = let a = c.requires in let f = c.entry_at-f.ensures.0 in let w = ask_left_expr a f refl (expr_on_left (omega (arith, c.in-Or.ensures)) (omega (arith, c.in-Or.ensures))) in (omega (arith, w.0), w.1)
 
-pub node-node-b-requires-in_default : goal.node-node-b-requires-in_default
-node-node-b-requires-in_default t c = let a = c.requires in let f = c.entry_at-f.ensures.0 in let x = known_expr f a.ready a.kinds.within a.kinds.sort in let k : c.entry_at-f.result.kind ≡ 11 = omega (arith, x.0, x.1.0, x.1.1, other_kind Exists c.kind_of.ensures c.in_default.not-Exists, other_kind Not c.kind_of.ensures c.in_default.not-Not, other_kind And c.kind_of.ensures c.in_default.not-And, other_kind Is c.kind_of.ensures c.in_default.not-Is, other_kind Same c.kind_of.ensures c.in_default.not-Same) in let w = ask_right_expr a f c.node-a-in_default.auto.acc (expr_on_right (omega arith) (omega arith)) in (omega (arith, w.0), w.1)
+pub node-node-b-requires-in-Or : goal.node-node-b-requires-in-Or
+node-node-b-requires-in-Or t c = let a = c.requires in let f = c.entry_at-f.ensures.0 in let w = ask_right_expr a f c.node-a-in-Or.auto.acc (expr_on_right (omega (arith, c.in-Or.ensures)) (omega (arith, c.in-Or.ensures))) in (omega (arith, w.0), w.1)
+
+pub node-unreachable-requires : goal.node-unreachable-requires
+node-unreachable-requires t c =
+    let a = c.requires in
+    let x = known_expr c.entry_at-f.ensures.0 a.ready a.kinds.within a.kinds.sort in
+    omega (arith, x.0, x.1.0, x.1.1, other_kind c.in_default.not-Exists c.kind_of.ensures, other_kind c.in_default.not-Not c.kind_of.ensures, other_kind c.in_default.not-And c.kind_of.ensures, other_kind c.in_default.not-Or c.kind_of.ensures, other_kind c.in_default.not-Is c.kind_of.ensures, other_kind c.in_default.not-Same c.kind_of.ensures)
 
 pub node-returns-in-Exists : goal.node-returns-in-Exists
 node-returns-in-Exists t c = let a = c.requires in let f = c.entry_at-f.ensures.0 in (did_exists f a.ready a.kinds.within _ c.starts.ensures c.table.ensures (sym c.in-Exists.ensures), leaves c.table.ensures)
@@ -95,8 +100,8 @@ node-returns-in-Not t c = let a = c.requires in let f = c.entry_at-f.ensures.0 i
 pub node-returns-in-And : goal.node-returns-in-And
 node-returns-in-And t c = let a = c.requires in let f = c.entry_at-f.ensures.0 in (did_both f a.ready a.kinds.within _ _ _ c.merged-in-And.ensures c.node-a-in-And.ensures.0 c.node-b.ensures.0 (sym c.in-And.ensures), leaves_on c.node-a-in-And.ensures.1 c.node-b.ensures.1)
 
-pub node-returns-in_default : goal.node-returns-in_default
-node-returns-in_default t c = let a = c.requires in let f = c.entry_at-f.ensures.0 in let x = known_expr f a.ready a.kinds.within a.kinds.sort in let k : c.entry_at-f.result.kind ≡ 11 = omega (arith, x.0, x.1.0, x.1.1, other_kind Exists c.kind_of.ensures c.in_default.not-Exists, other_kind Not c.kind_of.ensures c.in_default.not-Not, other_kind And c.kind_of.ensures c.in_default.not-And, other_kind Is c.kind_of.ensures c.in_default.not-Is, other_kind Same c.kind_of.ensures c.in_default.not-Same) in (did_either f a.ready a.kinds.within _ _ _ c.merged-in_default.ensures c.node-a-in_default.ensures.0 c.node-b-in_default.ensures.0 k, leaves_on c.node-a-in_default.ensures.1 c.node-b-in_default.ensures.1)
+pub node-returns-in-Or : goal.node-returns-in-Or
+node-returns-in-Or t c = let a = c.requires in let f = c.entry_at-f.ensures.0 in (did_either f a.ready a.kinds.within _ _ _ c.merged-in-Or.ensures c.node-a-in-Or.ensures.0 c.node-b-in-Or.ensures.0 (sym c.in-Or.ensures), leaves_on c.node-a-in-Or.ensures.1 c.node-b-in-Or.ensures.1)
 
 pub operands-table-requires : goal.operands-table-requires
 operands-table-requires t c = let f = c.entry_at-f.ensures.0 in let p : c.if-turned.first ≡ cond (ltb (get_or c.args.self.now.counts c.entry_at-f.result.left 0) (get_or c.args.self.now.counts c.entry_at-f.result.right 0)) c.entry_at-f.result.right c.entry_at-f.result.left = elim c.if-turned.branch [ operands-then-turned w ↦ first_of _ _ _ (lt-ltb _ _ w.if-turned.true) w.first-is | operands-else-turned w ↦ second_of _ _ _ (le-ltb _ _ w.if-turned.false) w.first-is ] in let w = ask_first c.requires f _ _ refl p in (omega (arith, w.0), w.1)
@@ -117,13 +122,13 @@ pub second-table-requires : goal.second-table-requires
 second-table-requires t c = let f = c.entry_at-f.ensures.0 in let p : c.if-turned.i ≡ cond c.args.turned c.entry_at-f.result.left c.entry_at-f.result.right = elim c.if-turned.branch [ second-then-turned w ↦ first_of _ _ _ w.if-turned.true w.i-is | second-else-turned w ↦ second_of _ _ _ w.if-turned.false w.i-is ] in let w = ask_second c.requires f _ p in (omega (arith, w.0), w.1.1)
 
 pub second-operation-requires : goal.second-operation-requires
-second-operation-requires t c = let f = c.entry_at-f.ensures.0 in let n = other_kind Compose c.kind_of.ensures c.in_default.not-Compose in let w = combining c.requires.joins f n in (rw c.kind_of.ensures (rw f c.requires.joins.both), omega (arith, w.0, c.kind_of.ensures))
+second-operation-requires t c = let f = c.entry_at-f.ensures.0 in let n = other_kind c.in_default.not-Compose c.kind_of.ensures in let w = combining c.requires.joins f n in (rw c.kind_of.ensures (rw f c.requires.joins.both), omega (arith, w.0, c.kind_of.ensures))
 
 pub second-returns-in-Compose : goal.second-returns-in-Compose
 second-returns-in-Compose t c = let f = c.entry_at-f.ensures.0 in let p : c.if-turned.i ≡ cond c.args.turned c.entry_at-f.result.left c.entry_at-f.result.right = elim c.if-turned.branch [ second-then-turned w ↦ first_of _ _ _ w.if-turned.true w.i-is | second-else-turned w ↦ second_of _ _ _ w.if-turned.false w.i-is ] in let a = c.requires.joins.asks in let k = sym c.in-Compose.ensures in did_tables f a.ready a.kinds.within _ _ c.requires.holds c.copy.ensures c.table.ensures _ c.copy-in-Compose.ensures c.compose.ensures (straight_left c.requires f k) (p ∙ straight_right c.requires f k) k
 
 pub second-returns-in_default : goal.second-returns-in_default
-second-returns-in_default t c = let f = c.entry_at-f.ensures.0 in let p : c.if-turned.i ≡ cond c.args.turned c.entry_at-f.result.left c.entry_at-f.result.right = elim c.if-turned.branch [ second-then-turned w ↦ first_of _ _ _ w.if-turned.true w.i-is | second-else-turned w ↦ second_of _ _ _ w.if-turned.false w.i-is ] in let n = other_kind Compose c.kind_of.ensures c.in_default.not-Compose in let a = c.requires.joins.asks in did_combine f a.ready a.kinds.within _ _ c.requires.holds c.copy.ensures c.table.ensures _ c.args.turned c.combine.ensures (held_first c.args.self.now.call.now.query.now c.args.e c.args.turned f) p (c.operation.ensures ∙ ap operation c.kind_of.ensures) (rw f c.requires.joins.both) n
+second-returns-in_default t c = let f = c.entry_at-f.ensures.0 in let p : c.if-turned.i ≡ cond c.args.turned c.entry_at-f.result.left c.entry_at-f.result.right = elim c.if-turned.branch [ second-then-turned w ↦ first_of _ _ _ w.if-turned.true w.i-is | second-else-turned w ↦ second_of _ _ _ w.if-turned.false w.i-is ] in let n = other_kind c.in_default.not-Compose c.kind_of.ensures in let a = c.requires.joins.asks in did_combine f a.ready a.kinds.within _ _ c.requires.holds c.copy.ensures c.table.ensures _ c.args.turned c.combine.ensures (held_first c.args.self.now.call.now.query.now c.args.e c.args.turned f) p (c.operation.ensures ∙ ap operation c.kind_of.ensures) (rw f c.requires.joins.both) n
 
 pub table-node-s-requires : goal.table-node-s-requires
 table-node-s-requires t c = let a = c.requires in let f = c.entry_at-f.ensures.0 in let w = ask_right_expr a f refl (filter_on_right (sym c.in-Filter.ensures)) in (omega (arith, w.0), w.1)
@@ -157,7 +162,7 @@ table-operands-requires t c = let a = c.requires in let f = c.entry_at-f.ensures
     elim c.in_default.branch [
       | table-in_default-via-in-Compose+else-from-room w ↦ (omega arith, joins_path a f (omega (arith, w.in-Compose.ensures)) (omega (arith, w.in-Compose.ensures)) (λ z. omega (arith, w.from.ensures)))
       | table-in_default-via-in_default w ↦
-          let m = known_path f a.ready a.kinds.within a.kinds.sort (other_kind Star c.kind_of.ensures w.in_default.not-Star) in let n0 = other_kind Step c.kind_of.ensures w.in_default.not-Step in let n1 = other_kind Compose c.kind_of.ensures w.in_default.not-Compose in let n2 = other_kind Filter c.kind_of.ensures w.in_default.not-Filter in let n3 = other_kind Variable c.kind_of.ensures w.in_default.not-Variable in let n4 = other_kind Root c.kind_of.ensures w.in_default.not-Root in (omega arith, joins_path a f (omega (arith, m, n0)) (omega (arith, m, n2, n3, n4)) (λ z. absurd (n1 z)))
+          let m = known_path f a.ready a.kinds.within a.kinds.sort (other_kind w.in_default.not-Star c.kind_of.ensures) in let n0 = other_kind w.in_default.not-Step c.kind_of.ensures in let n1 = other_kind w.in_default.not-Compose c.kind_of.ensures in let n2 = other_kind w.in_default.not-Filter c.kind_of.ensures in let n3 = other_kind w.in_default.not-Variable c.kind_of.ensures in let n4 = other_kind w.in_default.not-Root c.kind_of.ensures in (omega arith, joins_path a f (omega (arith, m, n0)) (omega (arith, m, n2, n3, n4)) (λ z. absurd (n1 z)))
     ]
 
 pub table-returns-in-Step : goal.table-returns-in-Step
