@@ -56,42 +56,31 @@ always_passed {t = t} {q = q} {e = e} r nodes p d row =
     p ∙ upto_cong (size_of t) d.searchable.linked.tree.sound.at_most (holds (tree_of t) (assigned nodes) (expr_at q e)) (holds (tree_of t) (assigned row) (expr_at q e))
     (λ x l. fixed_expr (tree_of t) (assigned nodes) (assigned row) q e d.kinds.sort d.fixed x)
 
--- sets that are lent
+-- two sets
 
-pub loaded : (s b : List ℕ) → s ≡ tab 256 (upto (length b) (memb b)) → length b ≡ 256 → (x : ℕ) → x < 256 → memb s x ≡ memb b x
-loaded s b p h x l = rw (p, h, fill_end 256 (memb b)) (memb_tab 256 (memb b) x l)
-
-pub did_meet : (n : ℕ) (a b both s : List ℕ) (r : Bool) → r ≡ any n (memb both) → both ≡ tab 256 (combination 1 a s) → s ≡ tab 256 (upto (length b) (memb b)) → length b ≡ 256 → n ≤ 256 → r ≡ common n a b
+pub did_meet : (n : ℕ) (a b both : List ℕ) (r : Bool) → r ≡ any n (memb both) → both ≡ tab 256 (combination 1 a b) → n ≤ 256 → r ≡ common n a b
 unfolding common combination combine
-did_meet n a b both s r p c l h le =
+did_meet n a b both r p c le =
     p ∙ ap (λ (z : List ℕ). any n (memb z)) c
-    ∙ any_cong n _ _ (λ x k. memb_tab 256 (λ x. memb a x && memb s x) x (omega arith) ∙ rw (loaded s b l h x (omega arith)))
+    ∙ any_cong n _ _ (λ x k. memb_tab 256 (λ x. memb a x && memb b x) x (omega arith))
 
 -- a row
 
-module _ {t v q : List ℕ} {k e : ℕ} {cut : Bool} {from to : List ℕ} (ok : Searchable t v q k) (c : Core t q k e cut from to) (row : Row) (start : List ℕ) (rl : length row ≡ k) (rb : Below (size_of t) row)
-    (sl : start ≡ tab 256 (upto (length from) (memb from))) where
+module _ {t v q : List ℕ} {k e : ℕ} {cut : Bool} {from to : List ℕ} (ok : Searchable t v q k) (c : Core t q k e cut from to) (row : Row) (rl : length row ≡ k) (rb : Below (size_of t) row) where
   ready_row : Ready t v q row
   ready_row = ready_at ok row rl rb
 
-  same_start : (x : ℕ) → x < size_of t → memb from x ≡ memb start x
-  same_start x l = sym (loaded start from sl c.from_size x (omega (arith, small ready_row)))
-
   -- nothing left: the sets meet or not
-  pub holds_none : (r : Bool) → r ≡ common (size_of t) start to → entries_of q ≤ e → r ≡ satisfied t q row
-  holds_none r p h =
-      p ∙ sym (c.holds row rl rb ∙ by_none ready_row from to e h ∙ common_cong (size_of t) from to start to same_start (λ x l. refl))
+  pub holds_none : (r : Bool) → r ≡ common (size_of t) from to → entries_of q ≤ e → r ≡ satisfied t q row
+  holds_none r p h = p ∙ sym (c.holds row rl rb ∙ by_none ready_row from to e h)
 
   pub suits_row : e < entries_of q → Suits t v q row e true
   suits_row em = record { ready = ready_row; kinds = record { within = em; sort = c.path em }; few = ok.few; five = c.five em }
 
-  module _ (em : e < entries_of q) (ends : List ℕ) (p : ends ≡ reached t q row e false start) where
+  module _ (em : e < entries_of q) (ends : List ℕ) (p : ends ≡ reached t q row e false from) where
     held : satisfied t q row ≡ common (size_of t) ends to
     unfolding reached
-    held =
-        c.holds row rl rb
-        ∙ by_image ready_row from to e em
-        ∙ ap (λ (z : List ℕ). common (size_of t) z to) (image_from (size_of t) (small ready_row) (related t q row e false) (memb from) (memb start) same_start ∙ sym p)
+    held = c.holds row rl rb ∙ by_image ready_row from to e em ∙ ap (λ (z : List ℕ). common (size_of t) z to) (sym p)
 
     -- the set that is reached meets the end, or has a node where that is all nodes
 
