@@ -1,5 +1,5 @@
 -- One turn inwards, as the code makes it: from an entry that it has read.
-use Prim.Native.Nat.{ℕ, ◌<◌}
+use Prim.Native.Nat.{ℕ, ◌<◌, ◌≤◌}
 use native.Mathlib.Omega.{arith}
 use mathlib.Core.Path.{◌≡◌, sym, ap, ◌∙◌}
 use mathlib.Core.Bool.{Bool, true, false}
@@ -30,8 +30,8 @@ pub left_start : {t v q : List ℕ} {k : ℕ} (all : List ℕ) → all ≡ tab 2
 left_start all p ok = record { searchable = ok; core = core_start ok all p; some = ok.path.within }
 
 -- no variable decides an entry whose number is 0
-pub none_reach : {q reaches : List ℕ} → NumbersTo (reach_at q) (entries_of q) reaches → (x : ℕ) → x < entries_of q → eqb (get_or reaches x 0) 0 ≡ eqb (reach_at q x) 0
-none_reach v x l = ap (λ (z : ℕ). eqb z 0) (sym (v.at x l))
+pub none_reach : (q reaches : List ℕ) → NumbersTo (reach_at q) (entries_of q) reaches → (x : ℕ) → x < entries_of q → eqb (get_or reaches x 0) 0 ≡ eqb (reach_at q x) 0
+none_reach q reaches v x l = ap (λ (z : ℕ). eqb z 0) (sym (v.at x l))
 
 module _ {t v q : List ℕ} {k e : ℕ} {at : Narrowed} (g : Left t v q k e at) where
   -- nothing is left
