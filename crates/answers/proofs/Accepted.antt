@@ -24,7 +24,6 @@ use Rattle.model.proofs.Accepted.{tree_ordered, tree_numbered, query_numbered, c
 use Rattle.aside.proofs.Accepted.{accepted_five}
 use Rattle.checks.proofs.Verdicts.{zero_of, cursor_numbered}
 use Rattle.tree.specs.Links.{PreviousSiblings}
-use Rattle.answers.specs.declared.Paged.{Paged}
 use Rattle.model.specs.Services.{page_outcome, PageLeaves}
 use Rattle.answers.specs.Search.{Listed, refused_page}
 
@@ -75,14 +74,3 @@ quick_few t q columns c room v p z =
     page_few t q columns c room (verdict (page_checks t q columns c room)) refl
     (quick_accepts t q columns c room (zero_of (quick_checks t q columns c room) v p z))
 
--- What a call leaves.
-
-module _ (t q : List ℕ) (columns : ℕ) (c : Cursor) (buffer : List ℕ) (v : Reply) (p : v ≡ verdict (page_checks t q columns c (length buffer))) where
-  pub page_refused : (r : Paged) → r ≡ refused_page v c → (v.number ≡ 0 → ⊥) → PageLeaves (page_outcome t q columns c buffer) r.reply r.cursor buffer
-  unfolding page_outcome
-  page_refused r e z = rw (e, ← p, ne_eqb v.number 0 z) (refl, refl, refl)
-
-  pub page_accepted : v.number ≡ 0 → (r : Paged) (rows : List ℕ) → PageLeaves (paged columns (answers t q columns) c buffer) r.reply r.cursor rows
-      → PageLeaves (page_outcome t q columns c buffer) r.reply r.cursor rows
-  unfolding page_outcome
-  page_accepted z r rows h = rw (← p, eq-eqb v.number 0 z) h

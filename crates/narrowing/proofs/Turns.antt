@@ -1,11 +1,10 @@
 -- One turn inwards, as the code makes it: from an entry that it has read.
 use Prim.Native.Nat.{ℕ, ◌<◌, ◌≤◌}
 use native.Mathlib.Omega.{arith}
-use mathlib.Core.Path.{◌≡◌, sym, ap, ◌∙◌}
+use mathlib.Core.Path.{◌≡◌, sym, ◌∙◌}
 use mathlib.Core.Bool.{Bool, true, false}
 use mathlib.Core.List.{List}
 use lib.Dec.{eqb}
-use lib.ListN.{get_or}
 use borrow.Author.Tests.{eqb-true}
 use Rattle.std.specs.Prelude.{Some, None}
 use Rattle.model.specs.declared.Entry.{Entry}
@@ -28,10 +27,6 @@ core_of_start all p ok = (core_start ok all p, ok.path.within)
 
 pub left_start : {t v q : List ℕ} {k : ℕ} (all : List ℕ) → all ≡ tab 256 (upto (size_of t) (always true)) → Searchable t v q k → Left t v q k (last_of q) (record { entry = Some (last_of q); cut = false; from = all; to = all })
 left_start all p ok = record { searchable = ok; core = core_start ok all p; some = ok.path.within }
-
--- no variable decides an entry whose number is 0
-pub none_reach : (q reaches : List ℕ) → NumbersTo (reach_at q) (entries_of q) reaches → (x : ℕ) → x < entries_of q → eqb (get_or reaches x 0) 0 ≡ eqb (reach_at q x) 0
-none_reach q reaches v x l = ap (λ (z : ℕ). eqb z 0) (sym (v.at x l))
 
 module _ {t v q : List ℕ} {k e : ℕ} {at : Narrowed} (g : Left t v q k e at) where
   -- nothing is left

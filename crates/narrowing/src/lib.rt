@@ -16,6 +16,8 @@ ghost use Rattle.pruning.specs.Pruning.{Named, reach_at};
 ghost use Rattle.engines.specs.Engines.{Searchable};
 ghost use Rattle.narrowing.specs.Narrowing.{Searches, CoreOf, Left, Going, Inward, Decided, AlwaysReached, AlwaysPassed, common};
 
+use model::Kind;
+
 // What is searched for rows: a query of k variables over a tree with its links, by whole tables or over sets (crate `engines`).
 #[derive(Clone, Copy)]
 pub struct Search<'a> {
@@ -236,17 +238,12 @@ impl<'a> Descent<'a> {
         ensures { Inward self.now.search.tree.now self.now.search.query.now self.now.search.k e result }
     {
         let f = query::entry_at(self.search.query, e);
-        let kind = f.kind;
-        if kind == 1 {
-            return self.composition(e, at);
+        match model::kind_of(f.kind) {
+            Kind::Compose => self.composition(e, at),
+            Kind::Filter => self.filter(e, at),
+            Kind::Root => self.root(e, at),
+            _ => None,
         }
-        if kind == 5 {
-            return self.filter(e, at);
-        }
-        if kind == 7 {
-            return self.root(e, at);
-        }
-        None
     }
 
     // As far inwards as it goes. Each turn but the last leaves an operand, which is a lower entry.
