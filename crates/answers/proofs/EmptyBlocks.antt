@@ -1,6 +1,6 @@
 -- Laws of blocks of rows: those that begin with the same numbers. Behind a block in which no row is an answer, the answers are those after
 -- its first row.
-use Prim.Native.Nat.{ℕ, zero, suc, ◌+◌, ◌-◌, ◌<◌, ◌≤◌}
+use Prim.Native.Nat.{ℕ, zero, suc, ◌+◌, ◌-◌, ◌<◌, ◌≤◌, min}
 use native.Mathlib.Decide.{dec_lt}
 use native.Mathlib.Omega.{arith}
 use mathlib.Core.Path.{◌≡◌, refl, sym, ap, ap₂, ◌∙◌, subst}
@@ -136,6 +136,9 @@ zeros_more {k} {low} {row} {i} z l v e h = record {
     at : (j : ℕ) → i - 1 ≤ j → j < k → Dec (j < i) → get_or row j 0 ≡ 0
     at j g m (yes d) = let f : j ≡ i - 1 = omega arith in rw f (sym e ∙ h)
     at j g m (no d) = z.zeros j (omega arith) m
+
+pub zeros_end : {k low : ℕ} {row : List ℕ} {i : ℕ} → ZerosFrom k low row i → i ≤ low → ZerosFrom k low row (min low k)
+zeros_end {k} {low} {row} {i} z h = subst (λ (j : ℕ). ZerosFrom k low row j) (let e : i ≡ min low k = omega (arith, z.within, z.from) in e) z
 
 -- the next block, which begins with one number more
 pub zeros_next : {k low : ℕ} {row : List ℕ} {i : ℕ} → ZerosFrom k low row i → i < k → ZerosFrom k low row (i + 1)

@@ -3,7 +3,7 @@ use Prim.Native.Nat.{ℕ, zero, suc, ◌+◌, ◌*◌, ◌/◌, ◌<◌, ◌≤�
 use native.Mathlib.Nat.{add_comm, zero-mul, suc-mul, mul-le-mul_right, div-mul-le_self, div-le_self}
 use native.Mathlib.Numerals.{add-one}
 use native.Mathlib.Omega.{arith}
-use mathlib.Core.Path.{◌≡◌, refl, sym, ap, ap₂, ◌∙◌}
+use mathlib.Core.Path.{◌≡◌, refl, sym, ap, ap₂, ◌∙◌, subst}
 use mathlib.Core.Logic.{◌⊎◌}
 use mathlib.Core.Bool.{Bool, true, false, cond}
 use mathlib.Core.List.{List, [], ◌∷◌, ◌++◌, append_assoc, append-nil, head-eq_of_cons-eq, tail-eq_of_cons-eq}
@@ -18,18 +18,6 @@ use Rattle.std.specs.Prelude.{Some, None}
 use Rattle.model.specs.Services.{PageLeaves}
 use Rattle.answers.specs.Search.{Spot, row_at, ahead, page_of}
 use Rattle.answers.proofs.Paging.{in_take, in_drop, in_after, some_not}
-
--- the cursor at a row of three numbers of which k count
-pub cursor_row : (k : ℕ) (c : Cursor) (row : List ℕ) (second third : ℕ) → second ≡ cond (ltb 1 k) (get_or row 1 0) c.second → third ≡ cond (ltb 2 k) (get_or row 2 0) c.third
-    → 1 ≤ k → k ≤ 3 → length row ≡ 3 → ◌≡◌ {A = Cursor} (record { begun = 1; first = get_or row 0 0; second = second; third = third }) (at_row c (take k row))
-cursor_row k c [] u v p q l h e = absurd (omega arith)
-cursor_row k c (x ∷ []) u v p q l h e = absurd (omega arith)
-cursor_row k c (x ∷ y ∷ []) u v p q l h e = absurd (omega arith)
-cursor_row zero c (x ∷ y ∷ z ∷ row) u v p q l h e = absurd (omega arith)
-cursor_row (suc zero) c (x ∷ y ∷ z ∷ row) u v p q l h e = rw (p, q)
-cursor_row (suc (suc zero)) c (x ∷ y ∷ z ∷ row) u v p q l h e = rw (p, q)
-cursor_row (suc (suc (suc zero))) c (x ∷ y ∷ z ∷ row) u v p q l h e = rw (p, q)
-cursor_row (suc (suc (suc (suc k)))) c (x ∷ y ∷ z ∷ row) u v p q l h e = absurd (omega arith)
 
 -- one row more
 
@@ -102,14 +90,11 @@ module _ {k : ℕ} {L : List Row} {c : Cursor} {first : List ℕ} {at : Spot} {l
 
   -- the spot is at one of the rows
   module _ (row : List ℕ) (there : at ≡ Some row) where
-    found : Row
-    found = row_at k row
-
-    next : drop count (after k L c) ≡ found ∷ keep (less found) L
-    next = sym g.left ∙ rw there
+    next : drop count (after k L c) ≡ row_at k row ∷ keep (less (row_at k row)) L
+    next = sym g.left ∙ ap (ahead k L) there
 
     pub going_in : In (row_at k row) L
-    going_in = in_after found L k c (in_drop count found (after k L c) (rw next (◌⊎◌.inl refl)))
+    going_in = in_after (row_at k row) L k c (in_drop count (row_at k row) (after k L c) (rw next (◌⊎◌.inl refl)))
 
     -- one turn
     pub going_turn : (count ≡ length first / k → ⊥) → (rows₁ : List ℕ) → rows₁ ≡ paste rows (count * k) row k
@@ -120,20 +105,20 @@ module _ {k : ℕ} {L : List Row} {c : Cursor} {first : List ℕ} {at : Spot} {l
         record {
           wide = g.wide;
           left = ea ∙ sym D;
-          gone = el ∙ ap (λ (z : Cursor). at_row z found) g.gone ∙ sym (ap (moved c) T ∙ moved_one c (take count (after k L c)) found);
-          held = er ∙ ap₂ (λ (x y : List ℕ). x ++ found ++ y) front back ∙ sym (ap₂ (λ (x : List ℕ) (m : ℕ). x ++ drop m first) F more);
-          long = ap length T ∙ length-append (take count (after k L c)) (found ∷ []) ∙ omega (arith, g.long);
+          gone = el ∙ ap (λ (z : Cursor). at_row z (row_at k row)) g.gone ∙ sym (ap (moved c) T ∙ moved_one c (take count (after k L c)) (row_at k row));
+          held = er ∙ ap₂ (λ (x y : List ℕ). x ++ row_at k row ++ y) front back ∙ sym (ap₂ (λ (x : List ℕ) (m : ℕ). x ++ drop m first) F more);
+          long = ap length T ∙ length-append (take count (after k L c)) (row_at k row ∷ []) ∙ omega (arith, g.long);
           few = omega (arith, g.few);
         }
       where
-        T : take (count + 1) (after k L c) ≡ take count (after k L c) ++ (found ∷ [])
-        T = rw add-one (split_one (after k L c) count found (keep (less found) L) next).0
+        T : take (count + 1) (after k L c) ≡ take count (after k L c) ++ (row_at k row ∷ [])
+        T = rw add-one (split_one (after k L c) count (row_at k row) (keep (less (row_at k row)) L) next).0
 
-        D : drop (count + 1) (after k L c) ≡ keep (less found) L
-        D = rw add-one (split_one (after k L c) count found (keep (less found) L) next).1
+        D : drop (count + 1) (after k L c) ≡ keep (less (row_at k row)) L
+        D = rw add-one (split_one (after k L c) count (row_at k row) (keep (less (row_at k row)) L) next).1
 
-        F : flat (take (count + 1) (after k L c)) ≡ flat (take count (after k L c)) ++ found
-        F = ap flat T ∙ flat_append (take count (after k L c)) (found ∷ []) ∙ ap (λ (z : List ℕ). flat (take count (after k L c)) ++ z) (append-nil found)
+        F : flat (take (count + 1) (after k L c)) ≡ flat (take count (after k L c)) ++ row_at k row
+        F = ap flat T ∙ flat_append (take count (after k L c)) (row_at k row ∷ []) ∙ ap (λ (z : List ℕ). flat (take count (after k L c)) ++ z) (append-nil (row_at k row))
 
         more : (count + 1) * k ≡ count * k + k
         more = rw (add-one, suc-mul)
@@ -170,7 +155,7 @@ module _ {k : ℕ} {L : List Row} {c : Cursor} {first : List ℕ} {at : Spot} {l
       (some_not (drop (length first / k) (after k L c)) (omega (arith, length-drop (length first / k) (after k L c), short, g.few)))
     where
       none : [] ≡ drop count (after k L c)
-      none = rw gone at g.left
+      none = sym (ap (ahead k L) gone) ∙ g.left
 
       short : length (after k L c) ≤ count
       short = omega (arith, length-drop count (after k L c), ap length none)
