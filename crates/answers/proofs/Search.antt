@@ -84,10 +84,6 @@ module _ (n k : ℕ) where
   pub stands_first : (s : Spot) (c : Cursor) → ahead k (all_rows n k) s ≡ after k (all_rows n k) c → Stands n k s
   stands_first s c e = stands_in s (after k (all_rows n k) c) e (λ r. in_after r (all_rows n k) k c)
 
-  -- at a row, it is at a row of nodes
-  pub stands_at : (s : Spot) (row : List ℕ) → s ≡ Some row → Stands n k s → Below n (take k row)
-  stands_at s row is h = rw is at h
-
 -- two tests, in either order
 
 keep_cons : (f : Row → Bool) (b : Bool) (x : Row) (xs : List Row) → keep f (cons_if b x xs) ≡ cons_if (b && f x) x (keep f xs)
@@ -122,12 +118,9 @@ module _ (t q : List ℕ) (k : ℕ) where
 
   -- the search: the answers from where it stands are those from where it began
   module _ (at s : Spot) (inv : keep (satisfied t q) (ahead k (all_rows (size_of t) k) at) ≡ keep (satisfied t q) (ahead k (all_rows (size_of t) k) s)) where
-    pub seek_done : at ≡ None → [] ≡ keep (satisfied t q) (ahead k (all_rows (size_of t) k) s)
-    seek_done h = let w = rw h at inv in w
-
     module _ (row : List ℕ) (is : at ≡ Some row) where
-      pub seek_hit : (b : Bool) → b ≡ satisfied t q (row_at k row) → b ≡ true → ahead k (answers t q k) at ≡ keep (satisfied t q) (ahead k (all_rows (size_of t) k) s)
-      seek_hit b e y = rw is (ap {B = List Row} (λ l. row_at k row ∷ l) (sym (answers_kept (less (row_at k row)))) ∙ let w = rw (is, sym e ∙ y) at inv in w)
+      pub seek_hit : (b : Bool) → b ≡ satisfied t q (row_at k row) → b ≡ true → ahead k (answers t q k) (Some row) ≡ keep (satisfied t q) (ahead k (all_rows (size_of t) k) s)
+      seek_hit b e y = ap {B = List Row} (λ l. row_at k row ∷ l) (sym (answers_kept (less (row_at k row)))) ∙ let w = rw (is, sym e ∙ y) at inv in w
 
       -- behind an empty block that begins with the row
       module _ (i : ℕ) (w : EmptyBlock t q k i row) (r : Spot) (e : ahead k (all_rows (size_of t) k) r ≡ keep (less (take i row)) (all_rows (size_of t) k)) where

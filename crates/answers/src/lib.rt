@@ -41,12 +41,15 @@ pub fn satisfies(search: &Search, row: [u16; 3]) -> bool
 {
     let n = search.tree.len() / 2;
     let last = search.query.len() / 4 - 1;
+    let call = model::Call {
+        tree: search.tree,
+        prev: search.prev,
+        query: search.query,
+        nodes: &row[..search.k],
+    };
     let mut found = 0;
     engines::image(
-        search.tree,
-        search.prev,
-        search.query,
-        &row[..search.k],
+        &call,
         search.whole,
         last,
         false,

@@ -16,7 +16,7 @@ ghost use Rattle.pruning.specs.Pruning.{Named, reach_at};
 ghost use Rattle.engines.specs.Engines.{Searchable};
 ghost use Rattle.narrowing.specs.Narrowing.{Searches, CoreOf, Left, Going, Inward, Decided, AlwaysReached, AlwaysPassed, common};
 
-use model::Kind;
+use model::{Call, Kind};
 
 // What is searched for rows: a query of k variables over a tree with its links, by whole tables or over sets (crate `engines`).
 #[derive(Clone, Copy)]
@@ -54,18 +54,14 @@ impl<'a> Search<'a> {
         ensures { AlwaysReached self.now.tree.now self.now.query.now e back from result }
     {
         let zeros = [0u16; 3];
+        let call = Call {
+            tree: self.tree,
+            prev: self.prev,
+            query: self.query,
+            nodes: &zeros[..self.k],
+        };
         let mut found = 0;
-        engines::image(
-            self.tree,
-            self.prev,
-            self.query,
-            &zeros[..self.k],
-            self.whole,
-            e,
-            back,
-            from,
-            &mut found,
-        )
+        engines::image(&call, self.whole, e, back, from, &mut found)
     }
 
     // The nodes where a node expression holds. One evaluation.
@@ -74,16 +70,14 @@ impl<'a> Search<'a> {
         ensures { AlwaysPassed self.now.tree.now self.now.query.now e result }
     {
         let zeros = [0u16; 3];
+        let call = Call {
+            tree: self.tree,
+            prev: self.prev,
+            query: self.query,
+            nodes: &zeros[..self.k],
+        };
         let mut found = 0;
-        engines::node(
-            self.tree,
-            self.prev,
-            self.query,
-            &zeros[..self.k],
-            self.whole,
-            e,
-            &mut found,
-        )
+        engines::node(&call, self.whole, e, &mut found)
     }
 
     // An entry that no variable decides: where it leads is known, and nothing is left.
@@ -137,18 +131,14 @@ impl<'a> Search<'a> {
         let Some(e) = left.entry else {
             return meet(n, left.from, left.to);
         };
+        let call = Call {
+            tree: self.tree,
+            prev: self.prev,
+            query: self.query,
+            nodes: &row[..self.k],
+        };
         let mut found = 0;
-        let ends = engines::image(
-            self.tree,
-            self.prev,
-            self.query,
-            &row[..self.k],
-            whole,
-            e,
-            false,
-            left.from,
-            &mut found,
-        );
+        let ends = engines::image(&call, whole, e, false, left.from, &mut found);
         if !left.cut {
             return found != 0;
         }
