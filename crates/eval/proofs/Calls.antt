@@ -1,5 +1,5 @@
 -- What the calls of the cycle require: an operand is an earlier entry of the right sort, so that the measure falls.
-use Prim.Native.Nat.{ℕ, ◌≤◌, ◌<◌}
+use Prim.Native.Nat.{ℕ, ◌-◌, ◌≤◌, ◌<◌}
 use native.Mathlib.Nat.{eq-or-lt_of_le}
 use native.Mathlib.Omega.{arith}
 use mathlib.Core.Path.{◌≡◌, refl, sym, ap, ◌∙◌}
@@ -19,7 +19,9 @@ use Rattle.model.specs.Kinds.{is_path, left_path, left_expr, right_path, right_e
 use Rattle.model.specs.Results.{assigned}
 use Rattle.model.proofs.Booleans.{both_yes, or_left, or_right, or_cases, no_or}
 use Rattle.model.proofs.KindTests.{is_path_by, left_expr_by, right_expr_by}
-use Rattle.eval.specs.Evaluation.{Ready, Sorted}
+use Rattle.sets.specs.declared.Operation.{Operation}
+use Rattle.sets.specs.NodeSets.{operation_number}
+use Rattle.eval.specs.Evaluation.{Ready, Sorted, operation_of}
 
 pub kind_at : {f g : Entry} → f ≡ g → f.kind ≡ g.kind
 kind_at p = ap (λ (f : Entry). f.kind) p
@@ -54,6 +56,16 @@ other_kind {k} {v} h p q = h (sym (numbered_back k) ∙ ap numbered (p ∙ q) �
 pub one_kind : {k v w : Kind} {n : ℕ} → (k ≡ v) ⊎ (k ≡ w) → kind_number k ≡ n → (n ≡ kind_number v) ⊎ (n ≡ kind_number w)
 one_kind (inl e) h = inl (sym h ∙ ap kind_number e)
 one_kind (inr e) h = inr (sym h ∙ ap kind_number e)
+
+-- the operation of a union, an intersect or an except is its number less 2
+joined_by : (k : Kind) → 2 ≤ kind_number k → kind_number k ≤ 4 → operation_number (operation_of k) ≡ kind_number k - 2
+joined_by Union a b = refl
+joined_by Intersect a b = refl
+joined_by Except a b = refl
+joined_by k a b = omega arith
+
+pub operation_by : (k : Kind) {n : ℕ} {op : Operation} → op ≡ operation_of k → kind_number k ≡ n → 2 ≤ n → n ≤ 4 → operation_number op ≡ n - 2
+operation_by k e h a b = rw (e, ← h) (joined_by k (rw h a) (rw h b))
 
 -- two operands in their order, or turned
 

@@ -1,6 +1,7 @@
 -- What the evaluator asks for, and what it gives: node sets as 256 bytes.
 use Rattle.std.specs.Prelude.{ℕ, ◌-◌, ◌≤◌, ◌<◌, ◌≡◌, Bool, List}
 use Rattle.model.specs.declared.Call.{Call}
+use Rattle.model.specs.declared.kind.Kind.{Kind}
 use Rattle.model.specs.Sets.{tab, memb, upto, image}
 use Rattle.model.specs.Tree.{tree_of, size_of}
 use Rattle.model.specs.Meaning.{holds}
@@ -8,6 +9,7 @@ use Rattle.model.specs.QueryTable.{entries_of, kind, left, right, expr_at}
 use Rattle.model.specs.Kinds.{is_path}
 use Rattle.model.specs.Results.{assigned, related}
 use Rattle.model.specs.Accepted.{Evaluable}
+use Rattle.sets.specs.declared.Operation.{Operation}
 use Rattle.sets.specs.NodeSets.{combination}
 use Rattle.steps.specs.Moves.{Linked}
 
@@ -47,6 +49,14 @@ row t q nodes e back x = tab 256 (upto (size_of t) (related t q nodes e back x))
 unfoldable pub joined : List ℕ → List ℕ → List ℕ → ℕ → Bool → List ℕ → List ℕ
 joined t q nodes e back s =
     tab 256 (combination (kind q e - 2) (reached t q nodes (left q e) back s) (reached t q nodes (right q e) back s))
+
+-- how the operands of an entry of a kind are combined: of a union and an `or`, of an intersect and an `and`, and else as of an except
+abbrev pub operation_of : Kind → Operation
+operation_of Kind.Union = Operation.Union
+operation_of Kind.Or = Operation.Union
+operation_of Kind.Intersect = Operation.Intersection
+operation_of Kind.And = Operation.Intersection
+operation_of k = Operation.Difference
 
 -- the pairs that end in a set, whatever node they start from
 abbrev pub ending : List ℕ → ℕ → ℕ → Bool

@@ -15,9 +15,10 @@ ghost use Rattle.std.specs.Prelude.{◌≡◌, true, false, ◌≤◌, ◌<◌, 
 ghost use Rattle.model.specs.Sets.{tab, ones, memb, upto, turn, image};
 ghost use Rattle.model.specs.Results.{assigned};
 ghost use Rattle.sets.specs.NodeSets.{only};
-ghost use Rattle.eval.specs.Evaluation.{ReadyFor, KindIn, SortIn, passed_for, reached_for, row_for, joined_for, ending};
+ghost use Rattle.eval.specs.Evaluation.{ReadyFor, KindIn, SortIn, passed_for, reached_for, row_for, joined_for, operation_of, ending};
 
 use model::{Call, Kind};
+use sets::Operation;
 
 // The node of variable k, as a set.
 fn variable(nodes: &[u16], k: usize) -> [u8; 256]
@@ -42,7 +43,7 @@ fn ending_image(
         × (count.new ≡ ones result) }
 {
     if back {
-        let hits = sets::combined(sets::INTERSECTION, from, to);
+        let hits = sets::combined(Operation::Intersection, from, to);
         let hit = sets::occupied(n, hits);
         let all = sets::full_if(hit, n);
         *count = sets::count_of(all);
@@ -52,10 +53,21 @@ fn ending_image(
     if some {
         // The set made anew: returned as it was lent, it would be moved by memmove, which the archive has no other need of.
         let all = sets::full(n);
-        return sets::combined(sets::INTERSECTION, all, to);
+        return sets::combined(Operation::Intersection, all, to);
     }
     *count = 0;
     sets::full(0)
+}
+
+// How the operands of an entry of a kind are combined.
+fn operation(kind: Kind) -> Operation
+    ensures { result ≡ operation_of kind }
+{
+    match kind {
+        Kind::Union | Kind::Or => Operation::Union,
+        Kind::Intersect | Kind::And => Operation::Intersection,
+        _ => Operation::Difference,
+    }
 }
 
 // What a set reaches by the path at entry e, or what reaches the set where back is set. Of a composition the operand at the
@@ -67,7 +79,10 @@ pub fn path(call: &Call, e: usize, back: bool, from: [u8; 256], count: &mut usiz
 {
     let f = query::entry_at(call.query, e);
     match model::kind_of(f.kind) {
-        Kind::Step => steps::step(call.tree, call.prev, f.left, f.tag, back, from, count),
+        Kind::Step => {
+            let axis = model::axis_of(f.left);
+            steps::step(call.tree, call.prev, axis, f.tag, back, from, count)
+        }
         Kind::Compose => {
             let (first, second) = if back {
                 (f.right, f.left)
@@ -82,11 +97,11 @@ pub fn path(call: &Call, e: usize, back: bool, from: [u8; 256], count: &mut usiz
         Kind::Filter => {
             let s = node(call, f.right, count);
             if back {
-                let m = sets::combined(sets::INTERSECTION, from, s);
+                let m = sets::combined(Operation::Intersection, from, s);
                 return path(call, f.left, back, m, count);
             }
             let m = path(call, f.left, back, from, count);
-            sets::combined_counted(sets::INTERSECTION, m, s, count)
+            sets::combined_counted(Operation::Intersection, m, s, count)
         }
         Kind::Star => star(call, e, back, from, count),
         Kind::Variable | Kind::Root => {
@@ -105,7 +120,8 @@ pub fn node(call: &Call, e: usize, count: &mut usize) -> [u8; 256]
 {
     let n = call.tree.len() / 2;
     let f = query::entry_at(call.query, e);
-    match model::kind_of(f.kind) {
+    let kind = model::kind_of(f.kind);
+    match kind {
         Kind::Exists => {
             let all = sets::full(n);
             path(call, f.left, true, all, count)
@@ -113,17 +129,12 @@ pub fn node(call: &Call, e: usize, count: &mut usize) -> [u8; 256]
         Kind::Not => {
             let all = sets::full(n);
             let a = node(call, f.left, count);
-            sets::combined_counted(sets::DIFFERENCE, all, a, count)
+            sets::combined_counted(Operation::Difference, all, a, count)
         }
-        Kind::And => {
+        Kind::And | Kind::Or => {
             let a = node(call, f.left, count);
             let b = node(call, f.right, count);
-            sets::combined_counted(sets::INTERSECTION, a, b, count)
-        }
-        Kind::Or => {
-            let a = node(call, f.left, count);
-            let b = node(call, f.right, count);
-            sets::combined_counted(sets::UNION, a, b, count)
+            sets::combined_counted(operation(kind), a, b, count)
         }
         Kind::Is => {
             *count = 1;
@@ -146,7 +157,7 @@ fn operands(call: &Call, e: usize, back: bool, from: [u8; 256], count: &mut usiz
     let f = query::entry_at(call.query, e);
     let a = path(call, f.left, back, from, count);
     let b = path(call, f.right, back, from, count);
-    let op = (f.kind - 2) as u8;
+    let op = operation(model::kind_of(f.kind));
     sets::combined_counted(op, a, b, count)
 }
 
@@ -162,7 +173,7 @@ fn by_rows(call: &Call, e: usize, back: bool, from: [u8; 256], count: &mut usize
         if from[x] != 0 {
             let s = sets::single(x);
             let row = operands(call, e, back, s, count);
-            let next = sets::combined(sets::UNION, found, row);
+            let next = sets::combined(Operation::Union, found, row);
             found = next;
         }
     }
@@ -202,17 +213,17 @@ fn star(call: &Call, e: usize, back: bool, from: [u8; 256], count: &mut usize) -
     let f = query::entry_at(call.query, e);
     let l = f.left;
     let all = sets::full(n);
-    let mut known = sets::combined(sets::INTERSECTION, all, from);
+    let mut known = sets::combined(Operation::Intersection, all, from);
     let mut last = known;
     loop {
         let next = path(call, l, back, last, count);
-        let fresh = sets::combined(sets::DIFFERENCE, next, known);
+        let fresh = sets::combined(Operation::Difference, next, known);
         let more = sets::occupied(n, fresh);
         if !more {
             *count = sets::count_of(known);
             return known;
         }
-        let grown = sets::combined(sets::UNION, known, fresh);
+        let grown = sets::combined(Operation::Union, known, fresh);
         known = grown;
         last = fresh;
     }
@@ -232,7 +243,7 @@ fn same(call: &Call, e: usize, count: &mut usize) -> [u8; 256]
         let start = sets::single(x);
         let a = path(call, f.left, false, start, count);
         let b = path(call, f.right, false, start, count);
-        let met = sets::combined(sets::INTERSECTION, a, b);
+        let met = sets::combined(Operation::Intersection, a, b);
         let some = sets::occupied(n, met);
         starts[x] = sets::byte(some);
     }

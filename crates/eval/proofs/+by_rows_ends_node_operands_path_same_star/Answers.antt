@@ -8,8 +8,8 @@ use Rattle.model.proofs.Bytes.{fill_store, fill_done}
 use Rattle.model.proofs.Counts.{ones_bytes}
 use Rattle.eval.specs.Evaluation.{passed, reached}
 use Rattle.model.proofs.KindTests.{path_on_left, path_on_right}
-use Rattle.eval.proofs.Calls.{kind_at, other_kind, one_kind, turned, straight, known_path, known_expr, either_operand, root_on_left, some_on_left, star_on_left, same_on_both, expr_on_left, filter_on_right, expr_on_right, variable_named, is_named_lem, left_path_lem, right_path_lem, left_expr_lem, right_expr_lem, variable_within, variable_node, variable_small}
-use Rattle.eval.proofs.Entries.{did_step, did_compose, did_filter, did_filter_back, rows_start, rows_skip, rows_more, rows_end, row_below, rows_count, did_operands, did_union, variable_one, did_variable, did_root, did_ending, did_exists, did_negate, did_both, did_either, did_is, did_star, same_hit, no_nodes}
+use Rattle.eval.proofs.Calls.{kind_at, other_kind, one_kind, operation_by, turned, straight, known_path, known_expr, either_operand, root_on_left, some_on_left, star_on_left, same_on_both, expr_on_left, filter_on_right, expr_on_right, variable_named, is_named_lem, left_path_lem, right_path_lem, left_expr_lem, right_expr_lem, variable_within, variable_node, variable_small}
+use Rattle.eval.proofs.Entries.{did_step, did_compose, did_filter, did_filter_back, rows_start, rows_skip, rows_more, rows_end, row_below, rows_count, did_operands, did_union, variable_one, did_variable, did_root, did_ending, did_exists, did_negate, did_joined, did_is, did_star, same_hit, no_nodes}
 use Rattle.eval.proofs.Growing.{start_within, more, fewer, done}
 use Rattle.eval.proofs.+by_rows_ends_node_operands_path_same_star.Goals as goal
 use Rattle.eval.proofs.+by_rows_ends_node_operands_path_same_star.Goals.{by_rows-then-from-x-ne0, by_rows-else-from-x-ne0, path-then-back, path-else-back}
@@ -51,7 +51,7 @@ pub node-variable-requires : goal.node-variable-requires
 node-variable-requires t c = let p = c.requires in let f = c.entry_at-f.ensures.0 in let k = kind_at f in (variable_within f p.0 p.1.within (is_named_lem (omega arith)), variable_small f p.0 p.1.within (is_named_lem (omega arith)))
 
 pub node-node-b-requires : goal.node-node-b-requires
-node-node-b-requires t c = let p = c.requires in let f = c.entry_at-f.ensures.0 in let k = kind_at f in let x = known_expr f p.0 p.1.within p.1.sort in let w = right_expr_lem f p.0 p.1.within (expr_on_right (omega arith) (omega arith)) in (omega (arith, w.lower), (p.0, w.kinds))
+node-node-b-requires t c = let p = c.requires in let f = c.entry_at-f.ensures.0 in let k = kind_at f in let s = one_kind c.in-And.is c.kind_of-kind.ensures in let w = right_expr_lem f p.0 p.1.within (expr_on_right (omega arith) (omega arith)) in (omega (arith, w.lower), (p.0, w.kinds))
 
 pub node-returns-in-Exists : goal.node-returns-in-Exists
 node-returns-in-Exists t c = let p = c.requires in let f = c.entry_at-f.ensures.0 in let k = kind_at f in let h : c.entry_at-f.result.kind ≡ 8 = omega arith in search (did_exists, rules)
@@ -59,26 +59,14 @@ node-returns-in-Exists t c = let p = c.requires in let f = c.entry_at-f.ensures.
 pub node-returns-in-Not : goal.node-returns-in-Not
 node-returns-in-Not t c = let p = c.requires in let f = c.entry_at-f.ensures.0 in let k = kind_at f in let h : c.entry_at-f.result.kind ≡ 9 = omega arith in search (did_negate, rules)
 
-pub node-returns-in-And : goal.node-returns-in-And
-node-returns-in-And t c = let p = c.requires in let f = c.entry_at-f.ensures.0 in let k = kind_at f in let h : c.entry_at-f.result.kind ≡ 10 = omega arith in search (did_both, rules)
-
-pub node-returns-in-Or : goal.node-returns-in-Or
-node-returns-in-Or t c = let p = c.requires in let f = c.entry_at-f.ensures.0 in let k = kind_at f in let h : c.entry_at-f.result.kind ≡ 11 = omega arith in search (did_either, rules)
-
 pub node-returns-in-Is : goal.node-returns-in-Is
 node-returns-in-Is t c = let p = c.requires in let f = c.entry_at-f.ensures.0 in let k = kind_at f in let h : c.entry_at-f.result.kind ≡ 12 = omega arith in search (did_is, variable_node, variable_one, is_named_lem, rules)
 
 pub node-node-a-requires-in-And : goal.node-node-a-requires-in-And
-node-node-a-requires-in-And t c = let p = c.requires in let f = c.entry_at-f.ensures.0 in let k = kind_at f in let w = left_expr_lem f p.0 p.1.within (expr_on_left (omega arith) (omega arith)) in (omega (arith, w.lower), (p.0, w.kinds))
-
-pub node-node-a-requires-in-Or : goal.node-node-a-requires-in-Or
-node-node-a-requires-in-Or t c = let p = c.requires in let f = c.entry_at-f.ensures.0 in let k = kind_at f in let w = left_expr_lem f p.0 p.1.within (expr_on_left (omega arith) (omega arith)) in (omega (arith, w.lower), (p.0, w.kinds))
-
-pub node-node-b-requires-in-Or : goal.node-node-b-requires-in-Or
-node-node-b-requires-in-Or t c = let p = c.requires in let f = c.entry_at-f.ensures.0 in let k = kind_at f in let w = right_expr_lem f p.0 p.1.within (expr_on_right (omega arith) (omega arith)) in (omega (arith, w.lower), (p.0, w.kinds))
+node-node-a-requires-in-And t c = let p = c.requires in let f = c.entry_at-f.ensures.0 in let k = kind_at f in let s = one_kind c.in-And.is c.kind_of-kind.ensures in let w = left_expr_lem f p.0 p.1.within (expr_on_left (omega arith) (omega arith)) in (omega (arith, w.lower), (p.0, w.kinds))
 
 pub node-unreachable-requires : goal.node-unreachable-requires
-node-unreachable-requires t c = let p = c.requires in let f = c.entry_at-f.ensures.0 in let k = kind_at f in let m = known_expr f p.0 p.1.within p.1.sort in omega (arith, other_kind c.in_default.not-Exists c.kind_of.ensures, other_kind c.in_default.not-Not c.kind_of.ensures, other_kind c.in_default.not-And c.kind_of.ensures, other_kind c.in_default.not-Or c.kind_of.ensures, other_kind c.in_default.not-Is c.kind_of.ensures, other_kind c.in_default.not-Same c.kind_of.ensures)
+node-unreachable-requires t c = let p = c.requires in let f = c.entry_at-f.ensures.0 in let k = kind_at f in let m = known_expr f p.0 p.1.within p.1.sort in omega (arith, other_kind c.in_default.not-Exists c.kind_of-kind.ensures, other_kind c.in_default.not-Not c.kind_of-kind.ensures, other_kind c.in_default.not-And c.kind_of-kind.ensures, other_kind c.in_default.not-Or c.kind_of-kind.ensures, other_kind c.in_default.not-Is c.kind_of-kind.ensures, other_kind c.in_default.not-Same c.kind_of-kind.ensures)
 
 pub operands-path-a-requires : goal.operands-path-a-requires
 operands-path-a-requires t c = let p = c.requires in let f = c.entry_at-f.ensures.0 in let k = kind_at f in let w = left_path_lem f p.0 p.1.within (path_on_left (omega arith) (omega arith)) in (omega (arith, w.lower), (p.0, w.kinds))
@@ -87,7 +75,7 @@ pub operands-path-b-requires : goal.operands-path-b-requires
 operands-path-b-requires t c = let p = c.requires in let f = c.entry_at-f.ensures.0 in let k = kind_at f in let w = right_path_lem f p.0 p.1.within (path_on_right (omega arith) (omega arith)) in (omega (arith, w.lower), (p.0, w.kinds))
 
 pub operands-returns : goal.operands-returns
-operands-returns t c = let p = c.requires in let f = c.entry_at-f.ensures.0 in search (did_operands, rules)
+operands-returns t c = let p = c.requires in let f = c.entry_at-f.ensures.0 in let k = kind_at f in (did_operands f p.0 p.1.within _ _ _ _ _ _ c.combined_counted.ensures.0 c.path-a.ensures.0 c.path-b.ensures.0 (operation_by c.kind_of.result c.operation-op.ensures c.kind_of.ensures (omega arith) (omega arith)), c.combined_counted.ensures.1)
 
 pub path-node-s-requires : goal.path-node-s-requires
 path-node-s-requires t c = let p = c.requires in let f = c.entry_at-f.ensures.0 in let k = kind_at f in let w = right_expr_lem f p.0 p.1.within (filter_on_right (omega arith)) in (omega (arith, w.lower), (p.0, w.kinds))
@@ -161,3 +149,6 @@ star-loop-fresh-smaller t c = let p = c.requires in fewer _ p.0.linked.tree.soun
 pub star-loop-fresh-preserved : goal.star-loop-fresh-preserved
 unfolding reached
 star-loop-fresh-preserved t c = let p = c.requires in (c.loop-fresh.invariant.0, more _ p.0.linked.tree.sound.at_most _ _ _ _ _ _ c.loop-fresh.invariant.1 c.path-next.ensures.0 c.combined-fresh.ensures _ c.combined-grown.ensures)
+
+pub node-returns-in-And : goal.node-returns-in-And
+node-returns-in-And t c = let p = c.requires in (did_joined c.entry_at-f.ensures.0 p.0 p.1.within _ _ _ c.combined_counted-in-And.ensures.0 c.operation.ensures c.kind_of-kind.ensures c.in-And.is c.node-a-in-And.ensures.0 c.node-b.ensures.0, c.combined_counted-in-And.ensures.1)
