@@ -24,7 +24,7 @@ fn zeros_from(k: usize, low: usize, row: [u16; 3]) -> usize
 }
 
 // The query has a pair where its variables below i have the row's numbers and the others stand for any node. One evaluation.
-fn goes_on(search: &Search, i: usize, row: [u16; 3]) -> bool
+pub fn goes_on(search: &Search, i: usize, row: [u16; 3]) -> bool
     requires { Lists search.now × Below (size_of search.now.tree.now) (take search.now.k row) }
     ensures { result ≡ satisfied_open search.now.tree.now search.now.query.now search.now.k row i }
 {

@@ -24,6 +24,8 @@ ghost use Rattle.answers.specs.Search.{Lists, Prepared, answers_by, page_of};
 
 use narrowing::{Narrowed, Search};
 
+pub use blocks::goes_on;
+
 // How the rows of a page are tried: by what search, of how many variables; what of the query the variables decide (crate `narrowing`), and
 // whether that is evaluated by whole tables; and how many variables must be bound before rows can be left out (crate `pruning`).
 #[derive(Drop)]
@@ -168,10 +170,7 @@ pub fn page_from(
     ensures { PageLeaves (page_outcome tree.now query.now columns cursor rows.old)
         (told_page result) (cursor_after cursor result) rows.new }
 {
-    let v = checks::check_page(tree, query, columns, cursor, rows.len());
-    if v.number != 0 {
-        return Err(model::Refusal::Room);
-    }
+    checks::check_page(tree, query, columns, cursor, rows.len())?;
     let prev = tree::previous_siblings(tree);
     let search = Search {
         tree,

@@ -194,7 +194,7 @@ impl<'a> Descent<'a> {
         let f = query::entry_at(self.search.query, e);
         if self.is_fixed(f.right) {
             let s = self.search.node(f.right);
-            let end = sets::combined(sets::INTERSECTION, at.to, s);
+            let end = sets::combined(sets::Operation::Intersection, at.to, s);
             return Some(Narrowed {
                 entry: Some(f.left),
                 cut: true,
@@ -259,6 +259,6 @@ fn meet(n: usize, a: [u8; 256], b: [u8; 256]) -> bool
     requires { n ≤ 256 }
     ensures { result ≡ common n a b }
 {
-    let both = sets::combined(sets::INTERSECTION, a, b);
+    let both = sets::combined(sets::Operation::Intersection, a, b);
     sets::occupied(n, both)
 }
