@@ -8,13 +8,16 @@ use Rattle.model.specs.Results.{related}
 use Rattle.eval.specs.Evaluation.{passing}
 use Rattle.eval.proofs.Entries.{part}
 use Rattle.eval.proofs.Growing.{Growing, missing}
-use Rattle.eval.proofs.+by_rows_ends_node_operands_path_same_star.Given as goal
+use Rattle.eval.proofs.+evaluation.Given as goal
 
 abbrev pub decreases-by_rows : goal.decreases-by_rows
 decreases-by_rows l = 3 * l.e + 1
 
 abbrev pub decreases-ends : goal.decreases-ends
 decreases-ends l = 3 * l.e
+
+abbrev pub decreases-filter : goal.decreases-filter
+decreases-filter l = 3 * l.e
 
 abbrev pub decreases-node : goal.decreases-node
 decreases-node l = 3 * l.e + 1

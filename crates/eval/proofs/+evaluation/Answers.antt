@@ -11,8 +11,8 @@ use Rattle.model.proofs.KindTests.{path_on_left, path_on_right}
 use Rattle.eval.proofs.Calls.{kind_at, other_kind, one_kind, operation_by, turned, straight, known_path, known_expr, either_operand, root_on_left, some_on_left, star_on_left, same_on_both, expr_on_left, filter_on_right, expr_on_right, variable_named, is_named_lem, left_path_lem, right_path_lem, left_expr_lem, right_expr_lem, variable_within, variable_node, variable_small}
 use Rattle.eval.proofs.Entries.{did_step, did_compose, did_filter, did_filter_back, rows_start, rows_skip, rows_more, rows_end, row_below, rows_count, did_operands, did_union, variable_one, did_variable, did_root, did_ending, did_exists, did_negate, did_joined, did_is, did_star, same_hit, no_nodes}
 use Rattle.eval.proofs.Growing.{start_within, more, fewer, done}
-use Rattle.eval.proofs.+by_rows_ends_node_operands_path_same_star.Goals as goal
-use Rattle.eval.proofs.+by_rows_ends_node_operands_path_same_star.Goals.{by_rows-then-from-x-ne0, by_rows-else-from-x-ne0, path-then-back, path-else-back}
+use Rattle.eval.proofs.+evaluation.Goals as goal
+use Rattle.eval.proofs.+evaluation.Goals.{by_rows-then-from-x-ne0, by_rows-else-from-x-ne0, path-then-back, path-else-back}
 
 pub by_rows-loop-x-init : goal.by_rows-loop-x-init
 by_rows-loop-x-init t c = (refl, search (rows_start, rules))
@@ -41,6 +41,21 @@ ends-path-requires t c = let p = c.requires in let f = c.entry_at-f.ensures.0 in
 pub ends-returns-in-Root : goal.ends-returns-in-Root
 ends-returns-in-Root t c = let p = c.requires in let f = c.entry_at-f.ensures.0 in let k = kind_at f in let h : c.entry_at-f.result.kind ≡ 7 = omega arith in search (did_root, rules)
 
+pub filter-node-s-requires : goal.filter-node-s-requires
+filter-node-s-requires t c = let p = c.requires in let f = c.entry_at-f.ensures.0 in let k = kind_at f in let w = right_expr_lem f p.0 p.1.within (filter_on_right (omega arith)) in (omega (arith, w.lower), (p.0, w.kinds))
+
+pub filter-path-requires : goal.filter-path-requires
+filter-path-requires t c = let p = c.requires in let f = c.entry_at-f.ensures.0 in let k = kind_at f in let w = left_path_lem f p.0 p.1.within (path_on_left (omega arith) (omega arith)) in (omega (arith, w.lower), (p.0, w.kinds))
+
+pub filter-returns-then-back : goal.filter-returns-then-back
+filter-returns-then-back t c = let p = c.requires in let f = c.entry_at-f.ensures.0 in let k = kind_at f in let h : c.entry_at-f.result.kind ≡ 5 = omega arith in search (did_filter_back, rules)
+
+pub filter-path-m-requires : goal.filter-path-m-requires
+filter-path-m-requires t c = let p = c.requires in let f = c.entry_at-f.ensures.0 in let k = kind_at f in let w = left_path_lem f p.0 p.1.within (path_on_left (omega arith) (omega arith)) in (omega (arith, w.lower), (p.0, w.kinds))
+
+pub filter-returns : goal.filter-returns
+filter-returns t c = let p = c.requires in let f = c.entry_at-f.ensures.0 in let k = kind_at f in let h : c.entry_at-f.result.kind ≡ 5 = omega arith in search (did_filter, rules)
+
 pub node-path-requires : goal.node-path-requires
 node-path-requires t c = let p = c.requires in let f = c.entry_at-f.ensures.0 in let k = kind_at f in let w = left_path_lem f p.0 p.1.within (some_on_left (omega arith)) in (omega (arith, w.lower), (p.0, w.kinds))
 
@@ -68,6 +83,9 @@ node-node-a-requires-in-And t c = let p = c.requires in let f = c.entry_at-f.ens
 pub node-unreachable-requires : goal.node-unreachable-requires
 node-unreachable-requires t c = let p = c.requires in let f = c.entry_at-f.ensures.0 in let k = kind_at f in let m = known_expr f p.0 p.1.within p.1.sort in omega (arith, other_kind c.in_default.not-Exists c.kind_of-kind.ensures, other_kind c.in_default.not-Not c.kind_of-kind.ensures, other_kind c.in_default.not-And c.kind_of-kind.ensures, other_kind c.in_default.not-Or c.kind_of-kind.ensures, other_kind c.in_default.not-Is c.kind_of-kind.ensures, other_kind c.in_default.not-Same c.kind_of-kind.ensures)
 
+pub node-returns-in-And : goal.node-returns-in-And
+node-returns-in-And t c = let p = c.requires in (did_joined c.entry_at-f.ensures.0 p.0 p.1.within _ _ _ c.combined_counted-in-And.ensures.0 c.operation.ensures c.kind_of-kind.ensures c.in-And.is c.node-a-in-And.ensures.0 c.node-b.ensures.0, c.combined_counted-in-And.ensures.1)
+
 pub operands-path-a-requires : goal.operands-path-a-requires
 operands-path-a-requires t c = let p = c.requires in let f = c.entry_at-f.ensures.0 in let k = kind_at f in let w = left_path_lem f p.0 p.1.within (path_on_left (omega arith) (omega arith)) in (omega (arith, w.lower), (p.0, w.kinds))
 
@@ -76,9 +94,6 @@ operands-path-b-requires t c = let p = c.requires in let f = c.entry_at-f.ensure
 
 pub operands-returns : goal.operands-returns
 operands-returns t c = let p = c.requires in let f = c.entry_at-f.ensures.0 in let k = kind_at f in (did_operands f p.0 p.1.within _ _ _ _ _ _ c.combined_counted.ensures.0 c.path-a.ensures.0 c.path-b.ensures.0 (operation_by c.kind_of.result c.operation-op.ensures c.kind_of.ensures (omega arith) (omega arith)), c.combined_counted.ensures.1)
-
-pub path-node-s-requires : goal.path-node-s-requires
-path-node-s-requires t c = let p = c.requires in let f = c.entry_at-f.ensures.0 in let k = kind_at f in let w = right_expr_lem f p.0 p.1.within (filter_on_right (omega arith)) in (omega (arith, w.lower), (p.0, w.kinds))
 
 pub path-ending_image-requires : goal.path-ending_image-requires
 path-ending_image-requires t c = search (row_below, rules, c.requires.0)
@@ -97,18 +112,6 @@ path-returns-after-back t c = let p = c.requires in let f = c.entry_at-f.ensures
 
 pub path-returns-in-Union : goal.path-returns-in-Union
 path-returns-in-Union t c = let p = c.requires in let f = c.entry_at-f.ensures.0 in let k = kind_at f in let h : c.entry_at-f.result.kind ≡ 2 = omega arith in search (did_union, rules)
-
-pub path-path-requires-then-back-2 : goal.path-path-requires-then-back-2
-path-path-requires-then-back-2 t c = let p = c.requires in let f = c.entry_at-f.ensures.0 in let k = kind_at f in let w = left_path_lem f p.0 p.1.within (path_on_left (omega arith) (omega arith)) in (omega (arith, w.lower), (p.0, w.kinds))
-
-pub path-returns-then-back-2 : goal.path-returns-then-back-2
-path-returns-then-back-2 t c = let p = c.requires in let f = c.entry_at-f.ensures.0 in let k = kind_at f in let h : c.entry_at-f.result.kind ≡ 5 = omega arith in search (did_filter_back, rules)
-
-pub path-path-m-requires-in-Filter : goal.path-path-m-requires-in-Filter
-path-path-m-requires-in-Filter t c = let p = c.requires in let f = c.entry_at-f.ensures.0 in let k = kind_at f in let w = left_path_lem f p.0 p.1.within (path_on_left (omega arith) (omega arith)) in (omega (arith, w.lower), (p.0, w.kinds))
-
-pub path-returns-else-back-2 : goal.path-returns-else-back-2
-path-returns-else-back-2 t c = let p = c.requires in let f = c.entry_at-f.ensures.0 in let k = kind_at f in let h : c.entry_at-f.result.kind ≡ 5 = omega arith in search (did_filter, rules)
 
 pub path-returns-in-Variable : goal.path-returns-in-Variable
 path-returns-in-Variable t c = let p = c.requires in let f = c.entry_at-f.ensures.0 in let k = kind_at f in let s = one_kind c.in-Variable.is c.kind_of.ensures in (did_ending f p.0 p.1.within _ _ _ _ c.ending_image.ensures.0 c.ends-to.ensures.0 (omega arith) (omega arith), c.ending_image.ensures.1)
@@ -149,6 +152,3 @@ star-loop-fresh-smaller t c = let p = c.requires in fewer _ p.0.linked.tree.soun
 pub star-loop-fresh-preserved : goal.star-loop-fresh-preserved
 unfolding reached
 star-loop-fresh-preserved t c = let p = c.requires in (c.loop-fresh.invariant.0, more _ p.0.linked.tree.sound.at_most _ _ _ _ _ _ c.loop-fresh.invariant.1 c.path-next.ensures.0 c.combined-fresh.ensures _ c.combined-grown.ensures)
-
-pub node-returns-in-And : goal.node-returns-in-And
-node-returns-in-And t c = let p = c.requires in (did_joined c.entry_at-f.ensures.0 p.0 p.1.within _ _ _ c.combined_counted-in-And.ensures.0 c.operation.ensures c.kind_of-kind.ensures c.in-And.is c.node-a-in-And.ensures.0 c.node-b.ensures.0, c.combined_counted-in-And.ensures.1)
