@@ -1,7 +1,7 @@
 -- Laws for the code: stores, and items appended by them.
 use Prim.Native.Nat.{ℕ, suc, ◌+◌, ◌-◌, ◌*◌, ◌≤◌, ◌<◌, max}
 use native.Mathlib.Omega.{arith}
-use mathlib.Core.Path.{◌≡◌, refl, sym, ap, ◌∙◌, subst}
+use mathlib.Core.Path.{◌≡◌, sym, ap, ◌∙◌, subst}
 use mathlib.Core.Bool.{true, false, ◌||◌, cond}
 use mathlib.Core.List.{List, [], ◌∷◌, append_assoc}
 use lib.ListN.{length, get_or, set, take, drop, length-set}
@@ -67,61 +67,58 @@ needed_variable c k l w r e p h = rw (names_variable_by k, h) (omega arith)
 pub needed_none : (c k l : ℕ) → (eqb k 6 || eqb k 12) ≡ false → c ≡ max c (cond (names_variable k) (suc l) 0)
 needed_none c k l h = rw (names_variable_by k, h) (omega arith)
 
-pub entered_seen : (d : Draft) (t o : List ℕ) (m : Made) (k l r g at : ℕ) → made d t o ≡ m → 4 * d.entries + 4 ≤ length t
+pub entered_is : (d : Draft) (t o : List ℕ) (k l r g at : ℕ) → 4 * d.entries + 4 ≤ length t
     → made (record { entries = d.entries + 1; depth = at + 1; columns = d.columns })
     (set (set (set (set t (4 * d.entries) k) (4 * d.entries + 1) l) (4 * d.entries + 2) r) (4 * d.entries + 3) g) (set o at d.entries)
-    ≡ entered k l r g at m
-entered_seen d t o m k l r g at v h =
+    ≡ entered k l r g at (made d t o)
+entered_is d t o k l r g at h =
     ap (λ (u : List ℕ). made (record { entries = d.entries + 1; depth = at + 1; columns = d.columns }) u (set o at d.entries)) (put_stores t (4 * d.entries) k l r g h)
-    ∙ ap (entered k l r g at) v
 
--- the three kinds of items, where there is room for an entry more and where there is none, in a builder seen as m
-module _ (d : Draft) (t o : List ℕ) (s : Sound (made d t o)) (m : Made) (v : made d t o ≡ m) where
-  wrote_seen : (i : Item) (n : Made) → n ≡ append i (made d t o) → Wrote (i ∷ []) m n
-  wrote_seen i n e = subst (λ (m : Made). Wrote (i ∷ []) m n) v (wrote_one i (made d t o) n e s)
+-- the three kinds of items, where there is room for an entry more and where there is none
+module _ (d : Draft) (t o : List ℕ) (s : Sound (made d t o)) where
+  wrote_item : (i : Item) (n : Made) → n ≡ append i (made d t o) → Wrote (i ∷ []) (made d t o) n
+  wrote_item i n e = wrote_one i (made d t o) n e s
 
   pub leaf_room : (k l g c : ℕ) (n : Made)
       → n ≡ entered k l 0 g d.depth (made (record { entries = d.entries; depth = d.depth; columns = c }) t o)
-      → c ≡ max d.columns (cond (names_variable k) (suc l) 0) → d.entries < 64 → Wrote (Item.leaf k l g ∷ []) m n
+      → c ≡ max d.columns (cond (names_variable k) (suc l) 0) → d.entries < 64 → Wrote (Item.leaf k l g ∷ []) (made d t o) n
   unfolding append
   leaf_room k l g c n e p h =
-      wrote_seen (Item.leaf k l g) n
+      wrote_item (Item.leaf k l g) n
       (rw (lt-ltb d.entries 64 h) (e ∙ ap (λ (c : ℕ). entered k l 0 g d.depth (made (record { entries = d.entries; depth = d.depth; columns = c }) t o)) p))
 
   pub leaf_full : (k l g c : ℕ) → c ≡ max d.columns (cond (names_variable k) (suc l) 0) → 64 ≤ d.entries
-      → Wrote (Item.leaf k l g ∷ []) m (made (past (record { entries = d.entries; depth = d.depth; columns = c })) t o)
+      → Wrote (Item.leaf k l g ∷ []) (made d t o) (made (past (record { entries = d.entries; depth = d.depth; columns = c })) t o)
   unfolding append
   leaf_full k l g c p h =
-      wrote_seen (Item.leaf k l g) _
+      wrote_item (Item.leaf k l g) _
       (rw (le-ltb d.entries 64 h) (ap (λ (c : ℕ). made (past (record { entries = d.entries; depth = d.depth; columns = c })) t o) p))
 
-  pub unary_room : (k at l : ℕ) (n : Made) → n ≡ entered k l 0 0 at m → l ≡ get_or o at 0 → at ≡ d.depth - 1 → d.entries < 64
-      → Wrote (Item.unary k ∷ []) m n
+  pub unary_room : (k at l : ℕ) (n : Made) → n ≡ entered k l 0 0 at (made d t o) → l ≡ get_or o at 0 → at ≡ d.depth - 1 → d.entries < 64
+      → Wrote (Item.unary k ∷ []) (made d t o) n
   unfolding append
   unary_room k at l n e p q h =
       let p' : l ≡ get_or o (d.depth - 1) 0 = p ∙ ap (λ (i : ℕ). get_or o i 0) q in
-      wrote_seen (Item.unary k) n
-      (rw (lt-ltb d.entries 64 h)
-      (e ∙ sym (ap (entered k l 0 0 at) v) ∙ ap (λ (i : ℕ). entered k l 0 0 i (made d t o)) q ∙ ap (λ (l : ℕ). entered k l 0 0 (d.depth - 1) (made d t o)) p'))
+      wrote_item (Item.unary k) n
+      (rw (lt-ltb d.entries 64 h) (e ∙ ap (λ (i : ℕ). entered k l 0 0 i (made d t o)) q ∙ ap (λ (l : ℕ). entered k l 0 0 (d.depth - 1) (made d t o)) p'))
 
-  pub binary_room : (k at top l r : ℕ) (n : Made) → n ≡ entered k l r 0 at m → l ≡ get_or o at 0 → r ≡ get_or o top 0 → at ≡ d.depth - 2 → top ≡ d.depth - 1
-      → d.entries < 64 → Wrote (Item.binary k ∷ []) m n
+  pub binary_room : (k at top l r : ℕ) (n : Made) → n ≡ entered k l r 0 at (made d t o) → l ≡ get_or o at 0 → r ≡ get_or o top 0 → at ≡ d.depth - 2 → top ≡ d.depth - 1
+      → d.entries < 64 → Wrote (Item.binary k ∷ []) (made d t o) n
   unfolding append
   binary_room k at top l r n e p p₁ q q₁ h =
       let p' : l ≡ get_or o (d.depth - 2) 0 = p ∙ ap (λ (i : ℕ). get_or o i 0) q in
       let r' : r ≡ get_or o (d.depth - 1) 0 = p₁ ∙ ap (λ (i : ℕ). get_or o i 0) q₁ in
-      wrote_seen (Item.binary k) n
+      wrote_item (Item.binary k) n
       (rw (lt-ltb d.entries 64 h)
       (e
-      ∙ sym (ap (entered k l r 0 at) v)
       ∙ ap (λ (i : ℕ). entered k l r 0 i (made d t o)) q
       ∙ ap (λ (l : ℕ). entered k l r 0 (d.depth - 2) (made d t o)) p'
       ∙ ap (λ (r : ℕ). entered k (get_or o (d.depth - 2) 0) r 0 (d.depth - 2) (made d t o)) r'))
 
-  pub unary_full : (k : ℕ) → 64 ≤ d.entries → Wrote (Item.unary k ∷ []) m (made (past d) t o)
+  pub unary_full : (k : ℕ) → 64 ≤ d.entries → Wrote (Item.unary k ∷ []) (made d t o) (made (past d) t o)
   unfolding append
-  unary_full k h = wrote_seen (Item.unary k) _ (rw (le-ltb d.entries 64 h))
+  unary_full k h = wrote_item (Item.unary k) _ (rw (le-ltb d.entries 64 h))
 
-  pub binary_full : (k : ℕ) → 64 ≤ d.entries → Wrote (Item.binary k ∷ []) m (made (past d) t o)
+  pub binary_full : (k : ℕ) → 64 ≤ d.entries → Wrote (Item.binary k ∷ []) (made d t o) (made (past d) t o)
   unfolding append
-  binary_full k h = wrote_seen (Item.binary k) _ (rw (le-ltb d.entries 64 h))
+  binary_full k h = wrote_item (Item.binary k) _ (rw (le-ltb d.entries 64 h))

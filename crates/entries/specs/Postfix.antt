@@ -91,8 +91,3 @@ pub record Sound (m : Made) : Type 0 where
 pub record Wrote (items : List Item) (before after : Made) : Type 0 where
   pub whole : after ≡ append_all items before
   pub sound : Sound after
-
--- a table in the making without entries yet
-pub record Fresh (m : Made) : Type 0 where
-  pub empty : m.draft ≡ blank
-  pub sound : Sound m

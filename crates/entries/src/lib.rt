@@ -6,10 +6,8 @@ ghost use Rattle.model.specs.Kinds.{names_variable};
 ghost use Rattle.model.specs.Encoding.{entry4};
 ghost use Rattle.model.specs.Refusals.{verdict};
 ghost use Rattle.entries.specs.Postfix.Item.{leaf, unary, binary};
-ghost use Rattle.entries.specs.Postfix.{entered, Fresh, Wrote};
+ghost use Rattle.entries.specs.Postfix.{entered, made, blank, Sound, Wrote};
 ghost use Rattle.entries.specs.Size.{size_checks};
-
-use std::marker::Model;
 
 // How far a table in the making has come: its entries, more than 64 counted as 65; the numbers on its stack, each of an entry that
 // no entry names yet; and how many variables it needs.
@@ -37,22 +35,15 @@ pub struct Builder {
     draft: Draft,
     table: [u16; 256],
     operands: [u16; 64],
-}
-
-impl Model for Builder {
-    ghost use Rattle.entries.specs.Postfix.{Made, Sound, made};
-
-    ghost Value = { Made };
-
-    ghost view = { λ b. made b.draft b.table b.operands };
-
-    ghost invariant = { λ b. Sound (made b.draft b.table b.operands) };
+    pub ghost sound: { Sound (made draft table operands) },
 }
 
 impl Builder {
+    ghost use Rattle.entries.specs.Builder.{made_of};
+
     // No entries yet.
     pub fn new() -> Builder
-        ensures { Fresh result }
+        ensures { (made_of result).draft ≡ blank }
     {
         Builder {
             draft: Draft {
@@ -67,14 +58,14 @@ impl Builder {
 
     // How far the table has come.
     pub fn draft(&self) -> Draft
-        ensures { result ≡ self.now.draft }
+        ensures { result ≡ (made_of self.now).draft }
     {
         self.draft
     }
 
     // Its numbers: those of its entries, and then numbers of no account.
     pub fn table(&self) -> &[u16]
-        ensures { result.now ≡ self.now.table }
+        ensures { result.now ≡ (made_of self.now).table }
     {
         &self.table
     }
@@ -82,7 +73,7 @@ impl Builder {
     // The next entry is written, and its number at place `at` of the stack.
     fn enter(&mut self, at: usize, k: u16, l: u16, r: u16, g: u16)
         requires { (self.old.draft.entries < 64) × (at ≤ self.old.draft.entries) }
-        ensures { self.new ≡ entered k l r g at self.old }
+        ensures { made_of self.new ≡ entered k l r g at (made_of self.old) }
     {
         let n = self.draft.entries;
         let i = 4 * n;
@@ -97,7 +88,7 @@ impl Builder {
 
     // An entry without operands.
     pub fn put_leaf(&mut self, kind: u16, left: u16, tag: u16)
-        ensures { Wrote (leaf kind left tag ∷ []) self.old self.new }
+        ensures { Wrote (leaf kind left tag ∷ []) (made_of self.old) (made_of self.new) }
     {
         self.draft.columns = needed(self.draft.columns, kind, left);
         if 64 <= self.draft.entries {
@@ -110,7 +101,7 @@ impl Builder {
 
     // An entry with one operand: the last on the stack.
     pub fn put_unary(&mut self, kind: u16)
-        ensures { Wrote (unary kind ∷ []) self.old self.new }
+        ensures { Wrote (unary kind ∷ []) (made_of self.old) (made_of self.new) }
     {
         if 64 <= self.draft.entries {
             self.draft.entries = 65;
@@ -123,7 +114,7 @@ impl Builder {
 
     // An entry with two operands: the last two on the stack.
     pub fn put_binary(&mut self, kind: u16)
-        ensures { Wrote (binary kind ∷ []) self.old self.new }
+        ensures { Wrote (binary kind ∷ []) (made_of self.old) (made_of self.new) }
     {
         if 64 <= self.draft.entries {
             self.draft.entries = 65;

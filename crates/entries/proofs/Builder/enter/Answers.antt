@@ -1,9 +1,8 @@
-use mathlib.Core.Path.{ap}
 use native.Mathlib.Omega.{arith}
-use Rattle.entries.specs.Postfix.{Made}
-use Rattle.entries.proofs.Drafts.{entered_seen}
+use Rattle.entries.proofs.Drafts.{entered_is}
 use Rattle.entries.proofs.Builder.enter.Goals as goal
 
 pub returns : goal.returns
 returns c =
-    entered_seen _ _ _ _ _ _ _ _ _ c.self.view_is (omega (arith, c.self.invariant.room, ap (λ (m : Made). m.draft.entries) c.self.view_is))
+    let a = c.args in
+    entered_is a.self.now.draft a.self.now.table a.self.now.operands a.k a.l a.r a.g a.at (omega (arith, a.self.now.sound.room))
