@@ -86,12 +86,9 @@ fn is_bad_byte(from: &[u8], i: usize) -> bool
 fn has_bad_byte(from: &[u8]) -> bool
     ensures { result ≡ any (length from.now) (bad_byte from.now) }
 {
-    let n = from.len();
     let mut found = false;
-    let mut i = 0;
-    while i < n {
-        found = is_bad_byte(from, i) | found;
-        i += 1;
+    for b in from {
+        found |= 1 < *b;
     }
     found
 }

@@ -15,10 +15,7 @@ ghost use Rattle.query.specs.Uses.{one_more, with_use, Counted};
 fn number_at(query: &[u16], at: usize) -> usize
     ensures { (result ≡ get_or query.now at 0) × (result < 65536) }
 {
-    if at < query.len() {
-        return model::wide(query[at]);
-    }
-    0
+    query.get(at).map_or(0, |x| usize::from(*x))
 }
 
 // The kind of entry e, or 0 past the end.
@@ -164,44 +161,30 @@ fn is_bad_last(query: &[u16], last: usize) -> bool
 fn one_more(kept: u8) -> u8
     ensures { result ≡ one_more kept }
 {
-    if kept == 0 {
-        return 1;
-    }
-    2
+    if kept == 0 { 1 } else { 2 }
 }
 
 // The counts with one use more of entry i, where it is used. Copying the 64 bytes is a constant cost.
+#[tactic(auto, unfolding(crate::specs::Uses::with_use))]
 fn with_use(counts: [u8; 64], used: bool, i: usize) -> [u8; 64]
     ensures { result ≡ with_use counts used i }
 {
-    if !used {
-        return counts;
+    let mut after = counts;
+    if used && i < 64 {
+        after[i] = one_more(counts[i]);
     }
-    if 64 <= i {
-        return counts;
-    }
-    let more = one_more(counts[i]);
-    let mut r = counts;
-    r[i] = more;
-    r
+    after
 }
 
 // For each of the first 64 entries, how often it is an operand: 0 never, 1 once, 2 more often. Linear in the entries.
 fn count_uses(query: &[u16]) -> [u8; 64]
     ensures { Counted query.now (entries_of query.now) result }
 {
-    let n = query.len() / 4;
     let mut counts = [0u8; 64];
-    let mut e = 0;
-    while e < n {
+    for e in 0..query.len() / 4 {
         let f = entry_at(query, e);
-        let k = f.kind;
-        let l = has_left(k);
-        let r = has_right(k);
-        let a = with_use(counts, l, f.left);
-        let b = with_use(a, r, f.right);
-        counts = b;
-        e += 1;
+        let with_left = with_use(counts, has_left(f.kind), f.left);
+        counts = with_use(with_left, has_right(f.kind), f.right);
     }
     counts
 }
@@ -211,8 +194,7 @@ fn is_misused(query: &[u16], counts: [u8; 64], i: usize) -> bool
     requires { Counted query.now (entries_of query.now) counts × (i < 64) }
     ensures { result ≡ misused query.now i }
 {
-    let kept = counts[i];
-    kept != 1
+    counts[i] != 1
 }
 
 // The lowest of the first n entries that is an operand never or more than once, or n.
