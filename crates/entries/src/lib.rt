@@ -4,10 +4,12 @@
 ghost use Rattle.std.specs.Prelude.{◌≡◌, cond, [], ◌∷◌, ◌+◌, ◌-◌, ◌*◌, ◌≤◌, ◌<◌, suc, max, length};
 ghost use Rattle.model.specs.Kinds.{names_variable};
 ghost use Rattle.model.specs.Encoding.{entry4};
-ghost use Rattle.model.specs.Refusals.{verdict};
+ghost use Rattle.model.specs.Refusals.{told, verdict};
 ghost use Rattle.entries.specs.Postfix.Item.{leaf, unary, binary};
 ghost use Rattle.entries.specs.Postfix.{entered, made, blank, Sound, Wrote};
 ghost use Rattle.entries.specs.Size.{size_checks};
+
+use model::Refusal;
 
 // How far a table in the making has come: its entries, more than 64 counted as 65; the numbers on its stack, each of an entry that
 // no entry names yet; and how many variables it needs.
@@ -129,17 +131,16 @@ impl Builder {
 }
 
 // The verdict on a query that is made: 26, 20.
-pub fn check_size(entries: usize, room: usize) -> model::Reply
+#[tactic(auto, unfolding(model::specs::Refusals::verdict))]
+pub fn check_size(entries: usize, room: usize) -> Result<(), Refusal>
     requires { entries ≤ 65 }
-    ensures { result ≡ verdict (size_checks entries room) }
+    ensures { told result ≡ verdict (size_checks entries room) }
 {
-    let many = 64 < entries;
-    if many {
-        return model::reply_at(26, 0);
+    if 64 < entries {
+        return Err(Refusal::TooManyEntries);
     }
-    let short = room < 4 * entries;
-    if short {
-        return model::reply_at(20, 0);
+    if room < 4 * entries {
+        return Err(Refusal::Room);
     }
-    model::reply_at(0, 0)
+    Ok(())
 }
