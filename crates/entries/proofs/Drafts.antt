@@ -2,15 +2,14 @@
 use Prim.Native.Nat.{ℕ, suc, ◌+◌, ◌-◌, ◌*◌, ◌≤◌, ◌<◌, max}
 use native.Mathlib.Omega.{arith}
 use mathlib.Core.Path.{◌≡◌, sym, ap, ◌∙◌, subst}
-use mathlib.Core.Bool.{true, false, ◌||◌, cond}
+use mathlib.Core.Bool.{cond}
 use mathlib.Core.List.{List, [], ◌∷◌, append_assoc}
 use lib.ListN.{length, get_or, set, take, drop, length-set}
 use lib.Seq.{sets-eq, length-sets}
-use lib.Dec.{ltb, eqb}
+use lib.Dec.{ltb}
 use borrow.Author.Tests.{ltb-true, lt-ltb, le-ltb}
 use Rattle.model.specs.Kinds.{names_variable}
 use Rattle.model.proofs.Booleans.{Seen, yes!, no!, seen}
-use Rattle.model.proofs.KindTests.{names_variable_by}
 use Rattle.model.specs.Encoding.{entry4}
 use Rattle.entries.specs.declared.Draft.{Draft}
 use Rattle.entries.specs.Postfix.{Item, Made, put, entered, full, past, operand, needing, append, append_all, made, Sound, Wrote}
@@ -59,13 +58,6 @@ append_sound (Item.binary k) m w =
 pub wrote_one : (i : Item) (m n : Made) → n ≡ append i m → Sound m → Wrote (i ∷ []) m n
 unfolding append_all
 wrote_one i m n e w = record { whole = e; sound = subst Sound (sym e) (append_sound i m w) }
-
--- the variables that are needed
-pub needed_variable : (c k l w r : ℕ) → r ≡ max c (w + 1) → w ≡ l → (eqb k 6 || eqb k 12) ≡ true → r ≡ max c (cond (names_variable k) (suc l) 0)
-needed_variable c k l w r e p h = rw (names_variable_by k, h) (omega arith)
-
-pub needed_none : (c k l : ℕ) → (eqb k 6 || eqb k 12) ≡ false → c ≡ max c (cond (names_variable k) (suc l) 0)
-needed_none c k l h = rw (names_variable_by k, h) (omega arith)
 
 pub entered_is : (d : Draft) (t o : List ℕ) (k l r g at : ℕ) → 4 * d.entries + 4 ≤ length t
     → made (record { entries = d.entries + 1; depth = at + 1; columns = d.columns })

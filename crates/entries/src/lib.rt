@@ -3,13 +3,13 @@
 
 ghost use Rattle.std.specs.Prelude.{◌≡◌, cond, [], ◌∷◌, ◌+◌, ◌-◌, ◌*◌, ◌≤◌, ◌<◌, suc, max, length};
 ghost use Rattle.model.specs.Kinds.{names_variable};
-ghost use Rattle.model.specs.Encoding.{entry4};
+ghost use Rattle.model.specs.Numbers.{kind_number};
 ghost use Rattle.model.specs.Refusals.{told, verdict};
 ghost use Rattle.entries.specs.Postfix.Item.{leaf, unary, binary};
 ghost use Rattle.entries.specs.Postfix.{entered, made, blank, Sound, Wrote};
 ghost use Rattle.entries.specs.Size.{size_checks};
 
-use model::Refusal;
+use model::{Kind, Refusal};
 
 // How far a table in the making has come: its entries, more than 64 counted as 65; the numbers on its stack, each of an entry that
 // no entry names yet; and how many variables it needs.
@@ -20,15 +20,22 @@ pub struct Draft {
     pub columns: usize,
 }
 
-// How many variables are needed with a leaf more.
-fn needed(columns: usize, kind: u16, left: u16) -> usize
-    ensures { result ≡ max columns (cond (names_variable kind) (suc left) 0) }
+// The number of a kind in a table.
+fn number_of(kind: Kind) -> u16
+    ensures { result ≡ kind_number kind }
 {
-    let variable = (kind == 6) | (kind == 12);
-    if variable {
-        return columns.max(model::wide(left) + 1);
+    kind as u16
+}
+
+// How many variables are needed with a leaf more.
+#[tactic(auto, unfolding(model::specs::Kinds::names_variable))]
+fn needed(columns: usize, kind: Kind, left: u16) -> usize
+    ensures { result ≡ max columns (cond (names_variable (kind_number kind)) (suc left) 0) }
+{
+    match kind {
+        Kind::Variable | Kind::Is => columns.max(model::wide(left) + 1),
+        _ => columns,
     }
-    columns
 }
 
 // A query table in the making, beside the stack: the numbers of the entries that no entry names yet.
@@ -73,13 +80,13 @@ impl Builder {
     }
 
     // The next entry is written, and its number at place `at` of the stack.
-    fn enter(&mut self, at: usize, k: u16, l: u16, r: u16, g: u16)
+    fn enter(&mut self, at: usize, kind: Kind, l: u16, r: u16, g: u16)
         requires { (self.old.draft.entries < 64) × (at ≤ self.old.draft.entries) }
-        ensures { made_of self.new ≡ entered k l r g at (made_of self.old) }
+        ensures { made_of self.new ≡ entered (kind_number kind) l r g at (made_of self.old) }
     {
         let n = self.draft.entries;
         let i = 4 * n;
-        self.table[i] = k;
+        self.table[i] = number_of(kind);
         self.table[i + 1] = l;
         self.table[i + 2] = r;
         self.table[i + 3] = g;
@@ -89,8 +96,8 @@ impl Builder {
     }
 
     // An entry without operands.
-    pub fn put_leaf(&mut self, kind: u16, left: u16, tag: u16)
-        ensures { Wrote (leaf kind left tag ∷ []) (made_of self.old) (made_of self.new) }
+    pub fn put_leaf(&mut self, kind: Kind, left: u16, tag: u16)
+        ensures { Wrote (leaf (kind_number kind) left tag ∷ []) (made_of self.old) (made_of self.new) }
     {
         self.draft.columns = needed(self.draft.columns, kind, left);
         if 64 <= self.draft.entries {
@@ -102,8 +109,8 @@ impl Builder {
     }
 
     // An entry with one operand: the last on the stack.
-    pub fn put_unary(&mut self, kind: u16)
-        ensures { Wrote (unary kind ∷ []) (made_of self.old) (made_of self.new) }
+    pub fn put_unary(&mut self, kind: Kind)
+        ensures { Wrote (unary (kind_number kind) ∷ []) (made_of self.old) (made_of self.new) }
     {
         if 64 <= self.draft.entries {
             self.draft.entries = 65;
@@ -115,8 +122,8 @@ impl Builder {
     }
 
     // An entry with two operands: the last two on the stack.
-    pub fn put_binary(&mut self, kind: u16)
-        ensures { Wrote (binary kind ∷ []) (made_of self.old) (made_of self.new) }
+    pub fn put_binary(&mut self, kind: Kind)
+        ensures { Wrote (binary (kind_number kind) ∷ []) (made_of self.old) (made_of self.new) }
     {
         if 64 <= self.draft.entries {
             self.draft.entries = 65;
