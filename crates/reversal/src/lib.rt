@@ -11,6 +11,7 @@ ghost use Rattle.model.specs.QueryTable.{entries_of, kind, last_of};
 ghost use Rattle.model.specs.Kinds.{is_path};
 ghost use Rattle.model.specs.Encoding.Term.{leaf};
 ghost use Rattle.model.specs.Services.{Leaves};
+ghost use Rattle.model.specs.Refusals.{told_making};
 ghost use Rattle.aside.specs.Aside.{term_at};
 ghost use Rattle.entries.specs.Postfix.{blank, Wrote};
 ghost use Rattle.entries.specs.Builder.{made_of};
@@ -19,6 +20,7 @@ ghost use Rattle.reversal.specs.Building.{Reversible, Builds, BuildsPath, step_i
 ghost use Rattle.reversal.specs.Service.{reversed_query, reversal};
 
 use entries::Builder;
+use model::{Kind, Refusal};
 
 // The test that every node passes.
 const NODE: u16 = 65534;
@@ -37,7 +39,7 @@ fn converse_axis(a: usize) -> u16
 fn put_step(axis: u16, tag: u16, b: &mut Builder)
     ensures { Builds (leaf 0 axis tag) (made_of b.old) (made_of b.new) }
 {
-    b.put_leaf(0, axis, tag);
+    b.put_leaf(Kind::Step, axis, tag);
 }
 
 // The path before, composed with a step to any node.
@@ -45,7 +47,7 @@ fn join_step(axis: u16, b: &mut Builder)
     ensures { Wrote (step_items axis) (made_of b.old) (made_of b.new) }
 {
     put_step(axis, NODE, b);
-    b.put_binary(1);
+    b.put_binary(Kind::Compose);
 }
 
 // A step reversed: self with its test, then the converse axis.
@@ -62,8 +64,8 @@ fn reverse_variable(k: u16, b: &mut Builder)
     ensures { BuildsPath (reversed (variable k)) (made_of b.old) (made_of b.new) }
 {
     put_step(0, NODE, b);
-    b.put_leaf(12, k, 0);
-    b.put_binary(5);
+    b.put_leaf(Kind::Is, k, 0);
+    b.put_binary(Kind::Filter);
     join_step(12, b);
     join_step(11, b);
 }
@@ -74,9 +76,9 @@ fn put_root(b: &mut Builder)
 {
     put_step(0, NODE, b);
     put_step(2, NODE, b);
-    b.put_unary(8);
-    b.put_unary(9);
-    b.put_binary(5);
+    b.put_unary(Kind::Exists);
+    b.put_unary(Kind::Not);
+    b.put_binary(Kind::Filter);
 }
 
 // The path before, where it ends at the root, and then every node.
@@ -84,7 +86,7 @@ fn join_root(b: &mut Builder)
     ensures { Wrote root_items (made_of b.old) (made_of b.new) }
 {
     put_root(b);
-    b.put_binary(1);
+    b.put_binary(Kind::Compose);
     join_step(11, b);
 }
 
@@ -94,7 +96,7 @@ fn copy(query: &[u16], e: usize, b: &mut Builder)
     ensures { Builds (term_at query.now e) (made_of b.old) (made_of b.new) }
 {
     let f = query::entry_at(query, e);
-    let kind = f.kind as u16;
+    let kind = model::kind_of(f.kind);
     if !query::has_left(f.kind) {
         b.put_leaf(kind, f.left as u16, f.tag as u16);
         return;
@@ -115,7 +117,7 @@ fn put_where(query: &[u16], e: usize, b: &mut Builder)
 {
     put_step(0, NODE, b);
     copy(query, e, b);
-    b.put_binary(5);
+    b.put_binary(Kind::Filter);
 }
 
 // The path at entry e, reversed. One call an entry, as deep as the path nests; the entry number falls at each.
@@ -124,32 +126,32 @@ fn reverse_path(query: &[u16], e: usize, b: &mut Builder)
     ensures { BuildsPath (reversed_at query.now e) (made_of b.old) (made_of b.new) }
 {
     let f = query::entry_at(query, e);
-    match f.kind {
-        0 => reverse_step(f.left, f.tag as u16, b),
-        1 => {
+    match model::kind_of(f.kind) {
+        Kind::Step => reverse_step(f.left, f.tag as u16, b),
+        Kind::Compose => {
             let (first, second) = (f.right, f.left);
             reverse_path(query, first, b);
             reverse_path(query, second, b);
-            b.put_binary(1);
+            b.put_binary(Kind::Compose);
         }
-        5 => {
+        Kind::Filter => {
             put_where(query, f.right, b);
             reverse_path(query, f.left, b);
-            b.put_binary(1);
+            b.put_binary(Kind::Compose);
         }
-        6 => reverse_variable(f.left as u16, b),
-        7 => {
+        Kind::Variable => reverse_variable(f.left as u16, b),
+        Kind::Root => {
             reverse_path(query, f.left, b);
             join_root(b);
         }
-        13 => {
+        Kind::Star => {
             reverse_path(query, f.left, b);
-            b.put_unary(13);
+            b.put_unary(Kind::Star);
         }
-        k => {
+        kind => {
             reverse_path(query, f.left, b);
             reverse_path(query, f.right, b);
-            b.put_binary(k as u16);
+            b.put_binary(kind);
         }
     }
 }
@@ -164,21 +166,15 @@ fn reverse_into(query: &[u16], b: &mut Builder)
 }
 
 // The service: the query turned round, as a table at the front of the buffer.
-pub fn reverse(query: &[u16], columns: usize, out: &mut [u16]) -> model::MadeReply
-    ensures { Leaves (reversal query.now columns out.old) result out.new }
+pub fn reverse(query: &[u16], columns: usize, out: &mut [u16]) -> Result<usize, Refusal>
+    ensures { Leaves (reversal query.now columns out.old) (told_making result) out.new }
 {
-    let v = query::check_query(query, columns);
-    if v.number != 0 {
-        return model::made_reply(v, 0);
-    }
+    query::check_query(query, columns)?;
     let mut b = Builder::new();
     reverse_into(query, &mut b);
     let entries = b.draft().entries;
-    let w = entries::check_size(entries, out.len());
-    if w.number != 0 {
-        return model::made_reply(w, 0);
-    }
+    entries::check_size(entries, out.len())?;
     let count = 4 * entries;
     model::copy(b.table(), count, out);
-    model::made_reply(w, count)
+    Ok(count)
 }
