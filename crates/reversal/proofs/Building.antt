@@ -3,12 +3,10 @@ use Prim.Native.Nat.{ℕ, zero, suc, ◌*◌, ◌≤◌, ◌<◌}
 use native.Mathlib.Nat.{eq-or-lt_of_le}
 use native.Mathlib.Omega.{arith}
 use mathlib.Core.Path.{◌≡◌, refl, sym, ap, ◌∙◌, subst}
-use mathlib.Core.Logic.{◌⊎◌, ⊎_elim}
-use mathlib.Core.Bool.{Bool, true, false, not, cond}
+use mathlib.Core.Logic.{⊎_elim}
+use mathlib.Core.Bool.{true, false}
 use mathlib.Core.List.{List, [], ◌∷◌, ◌++◌, append_assoc}
 use lib.ListN.{length, get_or, take}
-use lib.Dec.{ltb, eqb}
-use borrow.Author.Tests.{not-true, not-false, eqb-true, ltb-true}
 use Rattle.model.specs.declared.Entry.{Entry}
 use Rattle.model.specs.declared.kind.Kind.{Kind}
 use Rattle.model.specs.Numbers.{kind_number}
@@ -17,8 +15,8 @@ use Rattle.model.specs.Syntax.Path.{step, variable}
 use Rattle.model.specs.Encoding.{Term, path_term, expr_term, size}
 use Rattle.model.specs.QueryTable.{entries_of, kind, left, right, tag, entry, path_at, expr_at}
 use Rattle.model.specs.Kinds.{is_path, left_path, left_expr, right_path, right_expr, has_left, has_right, names_variable}
-use Rattle.model.proofs.Booleans.{Seen, yes!, no!, seen, no_yes, or_cases}
-use Rattle.model.proofs.KindTests.{is_path_by, path_on_left, path_on_right}
+use Rattle.model.proofs.Booleans.{no_yes}
+use Rattle.model.proofs.KindTests.{path_on_left, path_on_right}
 use Rattle.model.proofs.QueryTable.{at_step, at_compose, at_union, at_intersect, at_except, at_filter, at_variable, at_root, at_closure}
 use Rattle.model.proofs.Formed.{PathBefore, Read, read, left_lower, right_lower}
 use Rattle.model.proofs.Formed.Read.{step!, compose!, union!, intersect!, except!, filter!, variable!, root!, exists!, negate!, both!, either!, is!, closure!, same! }
@@ -27,7 +25,7 @@ use Rattle.aside.proofs.Terms.{Form, form}
 use Rattle.aside.proofs.Terms.Form.{none!, one!, two! }
 use Rattle.entries.specs.declared.Draft.{Draft}
 use Rattle.entries.specs.Postfix.{Item, Made, postfix, append_all, made, blank, Sound, Wrote}
-use Rattle.entries.proofs.Postfix.{wrote_on, blank_sound, built, entries_counted}
+use Rattle.entries.proofs.Postfix.{wrote_on, built, entries_counted}
 use Rattle.reversal.specs.Reversed.{converses, converse, self_at_root, reversed}
 use Rattle.reversal.specs.Building.{Reversible, Builds, BuildsPath, step_items, root_items, where_term, reversed_at, Makes}
 
@@ -113,26 +111,26 @@ pub record Others (k : Kind) : Type 0 where
   pub no_star : k ≡ Kind.Star → ⊥
 
 -- the paths among the rest are union, intersect and except
-two_kinds : (k : Kind) {i : ℕ} → kind_number k ≡ i → is_path i ≡ true → Others k → (1 < kind_number k) × (kind_number k ≤ 4)
-two_kinds k e p = by_kind k (rw e p)
-  where
-    by_kind : (k : Kind) → is_path (kind_number k) ≡ true → Others k → (1 < kind_number k) × (kind_number k ≤ 4)
-    unfolding is_path
-    by_kind Kind.Step p o = absurd (o.no_step refl)
-    by_kind Kind.Compose p o = absurd (o.no_compose refl)
-    by_kind Kind.Union p o = (omega arith, omega arith)
-    by_kind Kind.Intersect p o = (omega arith, omega arith)
-    by_kind Kind.Except p o = (omega arith, omega arith)
-    by_kind Kind.Filter p o = absurd (o.no_filter refl)
-    by_kind Kind.Variable p o = absurd (o.no_variable refl)
-    by_kind Kind.Root p o = absurd (o.no_root refl)
-    by_kind Kind.Exists p o = no_yes refl p
-    by_kind Kind.Not p o = no_yes refl p
-    by_kind Kind.And p o = no_yes refl p
-    by_kind Kind.Or p o = no_yes refl p
-    by_kind Kind.Is p o = no_yes refl p
-    by_kind Kind.Star p o = absurd (o.no_star refl)
-    by_kind Kind.Same p o = no_yes refl p
+path_kinds : (k : Kind) → is_path (kind_number k) ≡ true → Others k → (1 < kind_number k) × (kind_number k ≤ 4)
+unfolding is_path
+path_kinds Kind.Step p o = absurd (o.no_step refl)
+path_kinds Kind.Compose p o = absurd (o.no_compose refl)
+path_kinds Kind.Union p o = (omega arith, omega arith)
+path_kinds Kind.Intersect p o = (omega arith, omega arith)
+path_kinds Kind.Except p o = (omega arith, omega arith)
+path_kinds Kind.Filter p o = absurd (o.no_filter refl)
+path_kinds Kind.Variable p o = absurd (o.no_variable refl)
+path_kinds Kind.Root p o = absurd (o.no_root refl)
+path_kinds Kind.Exists p o = no_yes refl p
+path_kinds Kind.Not p o = no_yes refl p
+path_kinds Kind.And p o = no_yes refl p
+path_kinds Kind.Or p o = no_yes refl p
+path_kinds Kind.Is p o = no_yes refl p
+path_kinds Kind.Star p o = absurd (o.no_star refl)
+path_kinds Kind.Same p o = no_yes refl p
+
+two_kinds : (k : Kind) (i : ℕ) → kind_number k ≡ i → is_path i ≡ true → Others k → (1 < kind_number k) × (kind_number k ≤ 4)
+two_kinds k i e p = path_kinds k (subst (λ (j : ℕ). is_path j ≡ true) (sym e) p)
 
 -- an entry that can be reversed
 module _ (q : List ℕ) (ok : Reversible q) (e : ℕ) (within : e < entries_of q) where
@@ -327,7 +325,7 @@ module _ (q : List ℕ) (ok : Reversible q) (e : ℕ) (within : e < entries_of q
     -- the kinds that are left
     module _ (k : Kind) (is : kind_number k ≡ f.kind) (path : is_path (kind q e) ≡ true) (others : Others k) where
       between : (1 < kind_number k) × (kind_number k ≤ 4)
-      between = two_kinds k (is ∙ same_kind) path others
+      between = two_kinds k (kind q e) (is ∙ same_kind) path others
 
       pub two_before : PathBefore q e f.left × PathBefore q e f.right
       two_before =

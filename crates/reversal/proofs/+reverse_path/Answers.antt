@@ -72,7 +72,7 @@ pub returns-in-Step : goal.returns-in-Step
 returns-in-Step t c = reverses_step _ c.requires.0 _ c.requires.1.0 _ c.entry_at-f.ensures.0 _ _ c.reverse_step.ensures c.in-Step.ensures
 
 pub returns-in-Compose : goal.returns-in-Compose
-returns-in-Compose t c = reverses_compose _ c.requires.0 _ c.requires.1.0 _ c.entry_at-f.ensures.0 _ _ _ _ c.put_binary.ensures c.reverse_path-2.ensures c.reverse_path.ensures c.in-Compose.ensures
+returns-in-Compose t c = reverses_compose _ c.requires.0 _ c.requires.1.0 _ c.entry_at-f.ensures.0 _ _ _ _ c.put_binary.ensures c.reverse_path-in-Compose.ensures c.reverse_path.ensures c.in-Compose.ensures
 
 pub returns-in-Filter : goal.returns-in-Filter
 returns-in-Filter t c = reverses_filter _ c.requires.0 _ c.requires.1.0 _ c.entry_at-f.ensures.0 _ _ _ _ c.put_binary-in-Filter.ensures c.reverse_path-in-Filter.ensures c.put_where.ensures c.in-Filter.ensures
