@@ -11,8 +11,7 @@ use lib.Dec.{leb, ltb, eqb}
 use borrow.Author.Tests.{ltb-false}
 use Rattle.model.proofs.Booleans.{no_or}
 use Rattle.grammar.specs.Grammar.{elem, name_bytes}
-use Rattle.words.specs.declared.Scan.{Scan}
-use Rattle.words.specs.declared.Scan.TheVariants.{Word, Stop}
+use Rattle.std.specs.Prelude.{Result, Ok, Err}
 use Rattle.machine.specs.declared.Move.{Move}
 use Rattle.machine.specs.declared.Turn.{Turn}
 use Rattle.machine.specs.declared.Turn.TheVariants.{Go, Halt}
@@ -115,43 +114,43 @@ below_34 k h = let n : k ≤ 33 = ltb-false 33 k (no_or (eqb k 23) (ltb 33 k) h)
 
 -- turns
 
-scan_below : (n : ℕ) (words : List ℕ) (may : List Bool) (t : List ℕ) (lo best k : ℕ) → scan_from words may t lo n best ≡ Word k → k < lo + n
+scan_below : (n : ℕ) (words : List ℕ) (may : List Bool) (t : List ℕ) (lo best k : ℕ) → scan_from words may t lo n best ≡ Ok k → k < lo + n
 unfolding scan_from
 scan_below zero words may t lo best k h = let z : ◌≡◌ {A = ℕ} 0 1 = cc in absurd (omega arith)
 scan_below (suc n) words may t lo best k h =
     go (get_or may lo false && eqb (common (slot words lo) t) (length (slot words lo))) h (λ p. scan_below n words may t (suc lo) _ k p)
   where
-    go : (b : Bool) → cond b (Word lo) (scan_from words may t (suc lo) n (cond (get_or may lo false) (greater best (common (slot words lo) t)) best)) ≡ Word k
-        → (scan_from words may t (suc lo) n (cond (get_or may lo false) (greater best (common (slot words lo) t)) best) ≡ Word k → k < suc lo + n) → k < lo + suc n
+    go : (b : Bool) → cond b (Ok lo) (scan_from words may t (suc lo) n (cond (get_or may lo false) (greater best (common (slot words lo) t)) best)) ≡ Ok k
+        → (scan_from words may t (suc lo) n (cond (get_or may lo false) (greater best (common (slot words lo) t)) best) ≡ Ok k → k < suc lo + n) → k < lo + suc n
     go true p ih = let e : lo ≡ k = cc in omega arith
     go false p ih = let w = ih p in omega arith
 
-pub word_below : (words : List ℕ) (may : List Bool) (t : List ℕ) (lo hi k : ℕ) (r : Scan) → r ≡ Word k → r ≡ scan_from words may t lo (hi - lo) 0 → lo ≤ hi → hi ≤ 36 → k < 36
+pub word_below : (words : List ℕ) (may : List Bool) (t : List ℕ) (lo hi k : ℕ) (r : Result ℕ ℕ) → r ≡ Ok k → r ≡ scan_from words may t lo (hi - lo) 0 → lo ≤ hi → hi ≤ 36 → k < 36
 word_below words may t lo hi k r e s l h = let w = scan_below (hi - lo) words may t lo 0 k (sym s ∙ e) in omega arith
 
-pub want_word : (ks t : List ℕ) (g k len : ℕ) (may : List Bool) (r : Scan) (m : Move)
-    → r ≡ Word k → r ≡ scan_from word_table may t 0 20 0 → may ≡ want_may g → g ≡ top ks → m ≡ want_move g k → len ≡ length (slot word_table k) → Go k m len ≡ want_turn ks t
+pub want_word : (ks t : List ℕ) (g k len : ℕ) (may : List Bool) (r : Result ℕ ℕ) (m : Move)
+    → r ≡ Ok k → r ≡ scan_from word_table may t 0 20 0 → may ≡ want_may g → g ≡ top ks → m ≡ want_move g k → len ≡ length (slot word_table k) → Go k m len ≡ want_turn ks t
 want_word ks t g k len may r m e s f p q l =
-    let z : scan_from word_table (want_may (top ks)) t 0 20 0 ≡ Word k = ap (λ (i : ℕ). scan_from word_table (want_may i) t 0 20 0) (sym p) ∙ ap (λ (b : List Bool). scan_from word_table b t 0 20 0) (sym f) ∙ sym s ∙ e in
+    let z : scan_from word_table (want_may (top ks)) t 0 20 0 ≡ Ok k = ap (λ (i : ℕ). scan_from word_table (want_may i) t 0 20 0) (sym p) ∙ ap (λ (b : List Bool). scan_from word_table b t 0 20 0) (sym f) ∙ sym s ∙ e in
     let y : m ≡ want_move (top ks) k = q ∙ ap (λ (i : ℕ). want_move i k) p in
     rw (z, y, l)
 
-pub want_stop : (ks t : List ℕ) (g p : ℕ) (may : List Bool) (r : Scan)
-    → r ≡ Stop p → r ≡ scan_from word_table may t 0 20 0 → may ≡ want_may g → g ≡ top ks → Halt p ≡ want_turn ks t
+pub want_stop : (ks t : List ℕ) (g p : ℕ) (may : List Bool) (r : Result ℕ ℕ)
+    → r ≡ Err p → r ≡ scan_from word_table may t 0 20 0 → may ≡ want_may g → g ≡ top ks → Halt p ≡ want_turn ks t
 want_stop ks t g p may r e s f h =
-    let z : scan_from word_table (want_may (top ks)) t 0 20 0 ≡ Stop p = ap (λ (i : ℕ). scan_from word_table (want_may i) t 0 20 0) (sym h) ∙ ap (λ (b : List Bool). scan_from word_table b t 0 20 0) (sym f) ∙ sym s ∙ e in
+    let z : scan_from word_table (want_may (top ks)) t 0 20 0 ≡ Err p = ap (λ (i : ℕ). scan_from word_table (want_may i) t 0 20 0) (sym h) ∙ ap (λ (b : List Bool). scan_from word_table b t 0 20 0) (sym f) ∙ sym s ∙ e in
     rw z
 
-pub have_word : (f : ℕ) (ks t : List ℕ) (k len : ℕ) (may : List Bool) (r : Scan) (m : Move)
-    → r ≡ Word k → r ≡ scan_from word_table may t 20 16 0 → may ≡ have_may f ks → m ≡ have_move f ks k → len ≡ length (slot word_table k) → Go k m len ≡ have_turn f ks t
+pub have_word : (f : ℕ) (ks t : List ℕ) (k len : ℕ) (may : List Bool) (r : Result ℕ ℕ) (m : Move)
+    → r ≡ Ok k → r ≡ scan_from word_table may t 20 16 0 → may ≡ have_may f ks → m ≡ have_move f ks k → len ≡ length (slot word_table k) → Go k m len ≡ have_turn f ks t
 have_word f ks t k len may r m e s a q l =
-    let z : scan_from word_table (have_may f ks) t 20 16 0 ≡ Word k = ap (λ (b : List Bool). scan_from word_table b t 20 16 0) (sym a) ∙ sym s ∙ e in
+    let z : scan_from word_table (have_may f ks) t 20 16 0 ≡ Ok k = ap (λ (b : List Bool). scan_from word_table b t 20 16 0) (sym a) ∙ sym s ∙ e in
     rw (z, q, l)
 
-pub have_stop : (f : ℕ) (ks t : List ℕ) (p : ℕ) (may : List Bool) (r : Scan)
-    → r ≡ Stop p → r ≡ scan_from word_table may t 20 16 0 → may ≡ have_may f ks → Halt p ≡ have_turn f ks t
+pub have_stop : (f : ℕ) (ks t : List ℕ) (p : ℕ) (may : List Bool) (r : Result ℕ ℕ)
+    → r ≡ Err p → r ≡ scan_from word_table may t 20 16 0 → may ≡ have_may f ks → Halt p ≡ have_turn f ks t
 have_stop f ks t p may r e s a =
-    let z : scan_from word_table (have_may f ks) t 20 16 0 ≡ Stop p = ap (λ (b : List Bool). scan_from word_table b t 20 16 0) (sym a) ∙ sym s ∙ e in
+    let z : scan_from word_table (have_may f ks) t 20 16 0 ≡ Err p = ap (λ (b : List Bool). scan_from word_table b t 20 16 0) (sym a) ∙ sym s ∙ e in
     rw z
 
 pub gap_after : (n p r : ℕ) (ks : List ℕ) → r ≡ top (drop p ks) → p ≡ pops n ks → r ≡ top (drop (pops n ks) ks)

@@ -1,8 +1,7 @@
 -- The reading of typed queries as the code does it: a focus and a stack of bytes in place of expressions.
 use Rattle.std.specs.Prelude.{ℕ, zero, suc, ◌-◌, Bool, true, false, not, ◌&&◌, ◌||◌, cond, List, [], ◌∷◌, ◌++◌, length, drop, get_or, replicate, leb, ltb, eqb}
 use Rattle.machine.specs.declared.Move.{Move}
-use Rattle.words.specs.declared.Scan.{Scan}
-use Rattle.words.specs.declared.Scan.TheVariants.{Word, Stop}
+use Rattle.std.specs.Prelude.{Result, Ok, Err}
 use Rattle.machine.specs.declared.Turn.{Turn}
 use Rattle.machine.specs.declared.Turn.TheVariants.{Go, Halt}
 use Rattle.words.specs.Words.{slot, scan_from, word_table}
@@ -166,9 +165,9 @@ stack_of a zero = []
 stack_of a (suc d) = get_or a d 0 ∷ stack_of a d
 
 -- a turn: the word that is found, the step that it makes and its length; or how many bytes are read before it stops
-abbrev pub of_scan : Scan → (ℕ → Move) → Turn
-of_scan (Word k) move = Go k (move k) (length (slot word_table k))
-of_scan (Stop p) move = Halt p
+abbrev pub of_scan : Result ℕ ℕ → (ℕ → Move) → Turn
+of_scan (Ok k) move = Go k (move k) (length (slot word_table k))
+of_scan (Err p) move = Halt p
 
 -- where an expression is wanted
 abbrev pub want_turn : List ℕ → List ℕ → Turn
