@@ -25,9 +25,7 @@ use Rattle.grammar.specs.Automaton.{Frame, State, takes_test, opened, closed, is
 use Rattle.grammar.specs.Automaton.Frame.{left, lead, paren, negation, test}
 use Rattle.grammar.specs.Automaton.Focus.{want, axis, have}
 use Rattle.grammar.specs.Automaton.State.{state}
-use Rattle.machine.specs.Machine.{op_code, is_slash, codes_in, codes, letter_focus, letters_focus, name_focus, focus_code, top, takes, slashes, binds, pops, sort, mv, pushed, moved, want_may, slash_move, want_move, have_may, have_move, of_scan, letter_turn, have_turn, turn_of}
-use Rattle.machine.specs.declared.Turn.{Turn}
-use Rattle.machine.specs.declared.Turn.TheVariants.{Go, Halt}
+use Rattle.machine.specs.Machine.{Turn, reads, op_code, is_slash, codes_in, codes, letter_focus, letters_focus, name_focus, focus_code, top, takes, slashes, binds, pops, sort, mv, pushed, moved, want_may, slash_move, want_move, have_may, have_move, of_scan, letter_turn, have_turn, turn_of}
 use Rattle.grammar.proofs.Online.{Offers, is_cons, offered_cons}
 use Rattle.grammar.proofs.Choices.{Nth, Taken}
 use Rattle.grammar.proofs.Reading.{filled, token, Reads, each_skip, each_at}
@@ -705,8 +703,8 @@ focus_of (state fs f) = focus_code f
 
 -- what a turn says of the state
 abbrev pub Turned : State → List ℕ → Turn → Type 0
-Turned s t (Go k m n) = Goes s t k m n
-Turned s t (Halt p) = Halts s t p
+Turned s t (Ok w) = Goes s t w.number w.step w.len
+Turned s t (Err p) = Halts s t p
 
 pub past_axis : (e : Expr) → (eqb (focus_code (have e)) 0 ≡ false) × (eqb (focus_code (have e)) 1 ≡ false) × (ltb 1 (focus_code (have e)) ≡ true)
 unfolding focus_code
@@ -731,7 +729,7 @@ turned (state fs want) c r b t = unfold focus_code in go (scan_from word_table (
     go (Err p) e = want_halts fs t b p e
 turned (state fs (axis a)) c r b t = unfold focus_code in go (elem b name_bytes) refl (eqb b 42) refl
   where
-    go : (n : Bool) → elem b name_bytes ≡ n → (q : Bool) → eqb b 42 ≡ q → Turned (state fs (axis a)) (b ∷ t) (cond n (letter_turn 1 b) (cond q (Go 37 (mv 3 0 14) 1) (Halt 0)))
+    go : (n : Bool) → elem b name_bytes ≡ n → (q : Bool) → eqb b 42 ≡ q → Turned (state fs (axis a)) (b ∷ t) (cond n (letter_turn 1 b) (cond q (reads 37 (mv 3 0 14) 1) (Err 0)))
     go true e q h = first_goes fs a b t e
     go false e true h = star_goes fs a b t (eqb-true b 42 h)
     go false e false h = axis_halts fs a b t e h

@@ -1,4 +1,0 @@
-use Rattle.machine.proofs.have_may.Goals as goal
-
-pub returns : goal.returns
-returns c = cc
