@@ -1,30 +1,23 @@
 // What each turn of the reading writes.
 #![tactic(auto)]
 
-ghost use Rattle.std.specs.Prelude.{◌≡◌, [], ◌∷◌, ◌≤◌, ◌<◌, length};
+ghost use Rattle.std.specs.Prelude.{◌≡◌, [], ◌∷◌, ◌≤◌, ◌<◌, length, get_or};
+ghost use Rattle.model.specs.Numbers.{kind_number};
 ghost use Rattle.machine.specs.Machine.{pops, sort, stack_of};
 ghost use Rattle.entries.specs.Postfix.{Wrote};
 ghost use Rattle.entries.specs.Postfix.Item.{leaf};
 ghost use Rattle.entries.specs.Builder.{made_of};
-ghost use Rattle.emission.specs.Items.{as_test, gap_items, close_items, pending, slash_items, want_items, wants_test, last_items, closing_items, have_items, unnamed_tag, word_items, end_items};
+ghost use Rattle.emission.specs.Items.{as_test, joints, gap_items, close_items, pending, slash_items, want_items, wants_test, last_items, closing_items, have_items, unnamed_tag, word_items, end_items};
 
 use entries::Builder;
-
-// What closing gaps comes to: how many close, and whether a path then stands in the innermost.
-#[derive(Drop)]
-pub struct Closed {
-    pub pops: usize,
-    pub path: bool,
-}
+use machine::Closing;
+use model::Kind;
 
 // The test that every node passes.
 const NODE: u16 = 65534;
 
 // The star.
 const STAR: u16 = 65535;
-
-// The kinds of the gaps 0 to 9.
-const KINDS: [u16; 10] = [11, 10, 14, 2, 3, 4, 1, 1, 7, 1];
 
 // How tightly the words 25 to 33 bind to their left.
 const LEVELS: [usize; 9] = [0, 0, 0, 1, 3, 3, 4, 4, 6];
@@ -35,7 +28,7 @@ fn put_test(path: bool, b: &mut Builder)
     ensures { Wrote (as_test path) (made_of b.old) (made_of b.new) }
 {
     if path {
-        b.put_unary(8);
+        b.put_unary(Kind::Exists);
     }
 }
 
@@ -43,7 +36,24 @@ fn put_test(path: bool, b: &mut Builder)
 fn put_step(axis: u16, tag: u16, b: &mut Builder)
     ensures { Wrote (leaf 0 axis tag ∷ []) (made_of b.old) (made_of b.new) }
 {
-    b.put_leaf(0, axis, tag);
+    b.put_leaf(Kind::Step, axis, tag);
+}
+
+// What joins the two sides of a gap other than a leading slash.
+fn joint(k: u8) -> Kind
+    requires { k < 10 }
+    ensures { kind_number result ≡ get_or joints k 0 }
+{
+    match k {
+        0 => Kind::Or,
+        1 => Kind::And,
+        2 => Kind::Same,
+        3 => Kind::Union,
+        4 => Kind::Intersect,
+        5 => Kind::Except,
+        8 => Kind::Root,
+        _ => Kind::Compose,
+    }
 }
 
 // A gap that closes.
@@ -52,38 +62,28 @@ fn put_gap(k: u8, path: bool, b: &mut Builder)
     ensures { Wrote (gap_items k path) (made_of b.old) (made_of b.new) }
 {
     put_test((k < 2) & path, b);
-    match k {
-        8 => b.put_unary(7),
-        _ => b.put_binary(KINDS[words::wide(k)]),
+    if k == 8 {
+        b.put_unary(Kind::Root);
+    } else {
+        b.put_binary(joint(k));
     }
 }
 
-// Closes the gaps that bind at n or tighter. At most one turn a gap.
-pub fn close_gaps(stack: &[u8], depth: usize, n: usize, path: bool, b: &mut Builder) -> Closed
-    requires { depth ≤ length stack.now }
-    ensures { (result.pops ≡ pops n (stack_of stack.now depth))
-        × (result.path ≡ sort n (stack_of stack.now depth) path)
-        × (result.pops ≤ depth)
-        × Wrote (close_items n (stack_of stack.now depth) path) (made_of b.old) (made_of b.new) }
+// Closes the gaps that bind at n or tighter. At most two looks a gap.
+pub fn close_gaps(gaps: &[u8], n: usize, path: bool, b: &mut Builder) -> Closing
+    ensures { (result.pops ≡ pops n (stack_of gaps.now (length gaps.now)))
+        × (result.path ≡ sort n (stack_of gaps.now (length gaps.now)) path)
+        × (result.pops ≤ length gaps.now)
+        × Wrote (close_items n (stack_of gaps.now (length gaps.now)) path) (made_of b.old) (made_of b.new) }
 {
-    let mut left = depth;
-    let mut is_path = path;
-    while 0 < left {
-        let k = stack[left - 1];
-        if !machine::closes(n, k) {
-            return Closed {
-                pops: depth - left,
-                path: is_path,
-            };
-        }
-        put_gap(k, is_path, b);
-        is_path = !(k < 3);
-        left = left - 1;
+    let c = machine::close(gaps, n, path);
+    let mut path = path;
+    for i in 0..c.pops {
+        let k = gaps[gaps.len() - 1 - i];
+        put_gap(k, path, b);
+        path = !(k < 3);
     }
-    Closed {
-        pops: depth - left,
-        path: is_path,
-    }
+    c
 }
 
 // What has been read of a step, when it can't go on.
@@ -99,14 +99,14 @@ fn put_pending(f: u8, axis: u16, tag: u16, b: &mut Builder)
 }
 
 // A second slash, t the innermost gap.
-#[tactic(auto, using(entries::proofs::Postfix::wrote_none, crate::proofs::Writing::wrote_two))]
+#[tactic(auto, using(entries::proofs::Postfix::wrote_none))]
 fn put_slash(t: u8, b: &mut Builder)
     ensures { Wrote (slash_items t) (made_of b.old) (made_of b.new) }
 {
     match t {
         6 => {
             put_step(11, NODE, b);
-            b.put_binary(1);
+            b.put_binary(Kind::Compose);
         }
         8 => put_step(11, NODE, b),
         _ => {}
@@ -119,7 +119,7 @@ fn put_want(t: u8, k: usize, b: &mut Builder)
     ensures { Wrote (want_items t k) (made_of b.old) (made_of b.new) }
 {
     match k {
-        13..=15 => b.put_leaf(6, (k - 13) as u16, 0),
+        13..=15 => b.put_leaf(Kind::Variable, (k - 13) as u16, 0),
         19 => put_slash(t, b),
         _ => {}
     }
@@ -138,36 +138,36 @@ fn put_last(k: usize, inner: u8, b: &mut Builder)
     ensures { Wrote (last_items k inner) (made_of b.old) (made_of b.new) }
 {
     match (k, inner) {
-        (25, _) => b.put_binary(5),
-        (26, 12) => b.put_unary(9),
+        (25, _) => b.put_binary(Kind::Filter),
+        (26, 12) => b.put_unary(Kind::Not),
         _ => {}
     }
 }
 
 // The words 25 to 33.
-fn put_closing(stack: &[u8], depth: usize, f: u8, k: usize, b: &mut Builder)
-    requires { (depth ≤ length stack.now) × (25 ≤ k) × (k < 34) }
-    ensures { Wrote (closing_items f (stack_of stack.now depth) k) (made_of b.old) (made_of b.new) }
+fn put_closing(gaps: &[u8], f: u8, k: usize, b: &mut Builder)
+    requires { (25 ≤ k) × (k < 34) }
+    ensures { Wrote (closing_items f (stack_of gaps.now (length gaps.now)) k) (made_of b.old) (made_of b.new) }
 {
     let level = LEVELS[k - 25];
-    let c = close_gaps(stack, depth, level, 2 < f, b);
-    let inner = machine::innermost(stack, depth, c.pops);
+    let c = close_gaps(gaps, level, 2 < f, b);
+    let inner = machine::innermost(gaps, c.pops);
     put_test(wants_test(k, inner) & c.path, b);
     put_last(k, inner, b);
 }
 
 // Word k behind an expression, save '()' and '*'.
-fn put_have(stack: &[u8], depth: usize, f: u8, k: usize, axis: u16, tag: u16, b: &mut Builder)
-    requires { (depth ≤ length stack.now) × (20 ≤ k) × (k < 34) }
-    ensures { Wrote (have_items f (stack_of stack.now depth) k axis tag) (made_of b.old) (made_of b.new) }
+fn put_have(gaps: &[u8], f: u8, k: usize, axis: u16, tag: u16, b: &mut Builder)
+    requires { (20 ≤ k) × (k < 34) }
+    ensures { Wrote (have_items f (stack_of gaps.now (length gaps.now)) k axis tag) (made_of b.old) (made_of b.new) }
 {
     match k {
-        20..=22 => b.put_leaf(12, (k - 20) as u16, 0),
+        20..=22 => b.put_leaf(Kind::Is, (k - 20) as u16, 0),
         23 => put_step(2, NODE, b),
         24 => put_pending(f, axis, tag, b),
         _ => {
             put_pending(f, axis, tag, b);
-            put_closing(stack, depth, f, k, b);
+            put_closing(gaps, f, k, b);
         }
     }
 }
@@ -180,33 +180,24 @@ fn unnamed_tag(k: usize) -> u16
 }
 
 // What a turn writes: f is the focus and k the word; axis and tag are those of the name that has been read.
-#[tactic(auto, using(entries::proofs::Postfix::wrote_none))]
-pub fn write_word(
-    stack: &[u8],
-    depth: usize,
-    f: u8,
-    k: usize,
-    axis: u16,
-    tag: u16,
-    b: &mut Builder,
-)
-    requires { (depth ≤ length stack.now) × (k < 38) }
-    ensures { Wrote (word_items f (stack_of stack.now depth) k axis tag) (made_of b.old) (made_of b.new) }
+#[tactic(auto, using(entries::proofs::Postfix::wrote_none), unfolding(crate::specs::Items::word_items))]
+pub fn write_word(gaps: &[u8], f: u8, k: usize, axis: u16, tag: u16, b: &mut Builder)
+    requires { (k < 38) }
+    ensures { Wrote (word_items f (stack_of gaps.now (length gaps.now)) k axis tag) (made_of b.old) (made_of b.new) }
 {
     match k {
-        0..=19 => put_want(machine::innermost(stack, depth, 0), k, b),
-        20..=33 => put_have(stack, depth, f, k, axis, tag, b),
-        35 => b.put_unary(13),
+        0..=19 => put_want(machine::innermost(gaps, 0), k, b),
+        20..=33 => put_have(gaps, f, k, axis, tag, b),
+        35 => b.put_unary(Kind::Star),
         36 => {}
         _ => put_step(axis, unnamed_tag(k), b),
     }
 }
 
 // What the end of the text writes.
-pub fn write_end(stack: &[u8], depth: usize, f: u8, axis: u16, tag: u16, b: &mut Builder)
-    requires { depth ≤ length stack.now }
-    ensures { Wrote (end_items f (stack_of stack.now depth) axis tag) (made_of b.old) (made_of b.new) }
+pub fn write_end(gaps: &[u8], f: u8, axis: u16, tag: u16, b: &mut Builder)
+    ensures { Wrote (end_items f (stack_of gaps.now (length gaps.now)) axis tag) (made_of b.old) (made_of b.new) }
 {
     put_pending(f, axis, tag, b);
-    close_gaps(stack, depth, 0, 2 < f, b);
+    close_gaps(gaps, 0, 2 < f, b);
 }

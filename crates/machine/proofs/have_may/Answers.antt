@@ -1,0 +1,4 @@
+use Rattle.machine.proofs.have_may.Goals as goal
+
+pub returns : goal.returns
+returns c = cc
