@@ -186,14 +186,7 @@ fn read_text(text: &[u8], house: &[u8], site: &[u8], b: &mut Builder) -> Result<
     let mut stack = [0u8; 1024];
     let mut p = first_place();
     while p.at < text.len() {
-        match advance(text, house, site, &mut stack, b, p) {
-            Ok(next) => {
-                p = next;
-            }
-            Err(refusal) => {
-                return Err(refusal);
-            }
-        }
+        p = advance(text, house, site, &mut stack, b, p)?;
     }
     finish(text, house, site, &stack, b, p)
 }

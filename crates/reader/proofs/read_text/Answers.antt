@@ -2,6 +2,7 @@ use Prim.Native.Nat.{ℕ}
 use native.Mathlib.Omega.{arith}
 use borrow.Author.Rules.{rules}
 use mathlib.Core.Path.{refl}
+use Rattle.std.proofs.lemmas.Result.{err_from_is_err_and}
 use lib.ListN.{length-replicate}
 use Rattle.reader.proofs.Keeping.{within_text, kept_end}
 use Rattle.reader.proofs.Loop.{kept_first, turn_stuck, turn_on, turn_less}
@@ -15,14 +16,16 @@ advance-requires c =
     let i = c.loop-p.invariant in
     (within_text _ _ _ _ _ _ _ i (search rules) _ refl, search rules, c.requires.0, i.started, i.place.shallow, i.place.room)
 
-pub returns-in-Err : goal.returns-in-Err
-returns-in-Err c = turn_stuck _ _ _ _ _ _ _ c.loop-p.invariant (search rules) c.requires.0 _ _ _ c.advance.ensures _ c.in-Err.is
+pub returns-in_err-p : goal.returns-in_err-p
+returns-in_err-p c =
+    let p = err_from_is_err_and c.from_residual.result c.from_residual.ensures.1 in
+    rw (p.1, p.2) (turn_stuck _ _ _ _ _ _ _ c.loop-p.invariant (search rules) c.requires.0 _ _ _ c.advance.ensures _ c.in_err-p.was)
 
 pub loop-p-smaller : goal.loop-p-smaller
-loop-p-smaller c = turn_less _ _ _ _ _ _ _ c.loop-p.invariant (search rules) c.requires.0 _ _ _ c.advance.ensures c.in-Ok.next c.in-Ok.is
+loop-p-smaller c = turn_less _ _ _ _ _ _ _ c.loop-p.invariant (search rules) c.requires.0 _ _ _ c.advance.ensures c.in_ok-p.p c.in_ok-p.was
 
 pub loop-p-preserved : goal.loop-p-preserved
-loop-p-preserved c = turn_on _ _ _ _ _ _ _ c.loop-p.invariant (search rules) c.requires.0 _ _ _ c.advance.ensures _ c.in-Ok.is
+loop-p-preserved c = turn_on _ _ _ _ _ _ _ c.loop-p.invariant (search rules) c.requires.0 _ _ _ c.advance.ensures _ c.in_ok-p.was
 
 pub finish-requires : goal.finish-requires
 finish-requires c =
