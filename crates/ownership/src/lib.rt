@@ -124,12 +124,8 @@ fn has_bad_number(tree: &[u16]) -> bool
 {
     let n = tree.len() / 3;
     let mut found = is_bad_tag(tree, 0) | is_bad_owner(tree, 0);
-    let mut x = 1;
-    while x < n {
-        let g = tag(tree, x);
-        let o = owner(tree, x);
-        found = ((65533 < g) | (2 < o)) | found;
-        x += 1;
+    for x in 1..n {
+        found |= (65533 < tag(tree, x)) | (2 < owner(tree, x));
     }
     found
 }

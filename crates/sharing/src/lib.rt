@@ -35,16 +35,12 @@ fn occurrences_of(query: &[u16], v: usize) -> [u8; 64]
     requires { Shaped query.now }
     ensures { result ≡ occurrences query.now v }
 {
-    let n = query.len() / 4;
     let mut found = [0u8; 64];
-    let mut e = 0;
-    while e < n {
+    for e in 0..query.len() / 4 {
         let f = query::entry_at(query, e);
         let left = has(found, f.left);
         let right = has(found, f.right);
-        let b = stands(f, v, left, right);
-        found[e] = sets::byte(b);
-        e += 1;
+        found[e] = u8::from(stands(f, v, left, right));
     }
     found
 }

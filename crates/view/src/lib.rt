@@ -28,13 +28,6 @@ fn choose(b: bool, a: u16, c: u16) -> u16
     if b { a } else { c }
 }
 
-// 1 if b, else 0.
-fn one_if(b: bool) -> usize
-    ensures { (result ≡ bit b) × (result ≤ 1) }
-{
-    if b { 1 } else { 0 }
-}
-
 // The seen nodes, over the front of a table of 512 numbers, and how many they are. One turn a node, without a branch: each node is
 // written where the next seen one stands, and stays if it is seen itself. Its new number is kept for its children, or 65535 where it is
 // not seen.
@@ -47,16 +40,14 @@ fn fill(tree: &[u16], party: u16, table: &mut [u16]) -> usize
     table[0] = 65535;
     table[1] = ownership::tag(tree, 0);
     let mut nodes = 1;
-    let mut x = 1;
-    while x < n {
+    for x in 1..n {
         let p = ownership::parent(tree, x);
         let up = numbers[p];
         let seen = is_open(ownership::owner(tree, x), party) & (up != 65535);
         table[2 * nodes] = up;
         table[2 * nodes + 1] = ownership::tag(tree, x);
         numbers[x] = choose(seen, nodes as u16, 65535);
-        nodes += one_if(seen);
-        x += 1;
+        nodes += usize::from(seen);
     }
     nodes
 }
