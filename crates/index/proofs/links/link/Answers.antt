@@ -3,7 +3,7 @@ use native.Mathlib.Omega.{arith}
 use lib.ListN.{get_or}
 use borrow.Author.Rules.{rules}
 use mathlib.Core.Path.{refl}
-use Rattle.index.proofs.Linking.{linking_start, linking_next, linking_rising, linking_holds, linking_count_small, linking_whole, linking_firsts, linking_counted}
+use Rattle.index.proofs.Linking.{linking_next, linking_rising, linking_holds, linking_count_small, linking_whole, linking_firsts, linking_counted}
 use Rattle.index.proofs.links.link.Goals as goal
 
 pub place_of-k-requires : goal.place_of-k-requires
