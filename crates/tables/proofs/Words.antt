@@ -11,26 +11,26 @@ use borrow.Author.Tests.{lt-ltb, le-ltb}
 use Rattle.model.specs.Sets.{bit, upto}
 use Rattle.model.proofs.Booleans.{lt_or_le}
 use Rattle.sets.specs.NodeSets.{combine}
-use Rattle.sets.proofs.Images.{combine_else}
 use Rattle.bits.specs.Words.{test_bit, word}
 use Rattle.bits.proofs.Words.{bit_lt, word_cong, word_or, word_and, word_not, word_none, word_one, word_bits, word_below}
 use Rattle.tables.specs.Tables.{merged_bits, only_if, full_from}
 
 -- two words combined
 
-module _ (op a b : ℕ) (fa : a < 2 ^ 64) (fb : b < 2 ^ 64) where
-  pub merge_or : op ≡ 0 → bit_or a b ≡ word 64 (merged_bits op a b)
+module _ (a b : ℕ) (fa : a < 2 ^ 64) (fb : b < 2 ^ 64) where
+  pub merge_or : bit_or a b ≡ word 64 (merged_bits 0 a b)
   unfolding combine
-  merge_or z = ap₂ bit_or (sym (word_bits 64 a fa)) (sym (word_bits 64 b fb)) ∙ word_or 64 (test_bit a) (test_bit b) ∙ word_cong 64 _ _ (λ k l. rw z)
+  merge_or = ap₂ bit_or (sym (word_bits 64 a fa)) (sym (word_bits 64 b fb)) ∙ word_or 64 (test_bit a) (test_bit b)
 
-  pub merge_and : op ≡ 1 → bit_and a b ≡ word 64 (merged_bits op a b)
+  pub merge_and : bit_and a b ≡ word 64 (merged_bits 1 a b)
   unfolding combine
-  merge_and z = ap₂ bit_and (sym (word_bits 64 a fa)) (sym (word_bits 64 b fb)) ∙ word_and 64 (test_bit a) (test_bit b) ∙ word_cong 64 _ _ (λ k l. rw z)
+  merge_and = ap₂ bit_and (sym (word_bits 64 a fa)) (sym (word_bits 64 b fb)) ∙ word_and 64 (test_bit a) (test_bit b)
 
-  pub merge_not : (op ≡ 0 → ⊥) → (op ≡ 1 → ⊥) → bit_and a (18446744073709551615 - b) ≡ word 64 (merged_bits op a b)
-  merge_not y z =
+  pub merge_not : bit_and a (18446744073709551615 - b) ≡ word 64 (merged_bits 2 a b)
+  unfolding combine
+  merge_not =
       ap₂ bit_and (sym (word_bits 64 a fa)) (ap (λ (x : ℕ). 18446744073709551615 - x) (sym (word_bits 64 b fb)) ∙ word_not 64 (test_bit b))
-      ∙ word_and 64 (test_bit a) (λ k. not (test_bit b k)) ∙ word_cong 64 _ _ (λ k l. combine_else op (test_bit a k) (test_bit b k) y z)
+      ∙ word_and 64 (test_bit a) (λ k. not (test_bit b k))
 
 -- one bit, and the lowest bits
 
