@@ -34,8 +34,7 @@ fn path_in(
         call,
         counts: aside::counts(call.query),
     };
-    let room = relations::write::room_for(usize::from(evaluation.counts[e]));
-    evaluation.table(room, e, words);
+    evaluation.table(evaluation.room(e), e, words);
     let r = reading::image(words, call.tree.len() / 2, back, from);
     *count = sets::count_of(r);
     r
@@ -50,8 +49,7 @@ fn node_in(call: &Call, e: usize, words: &mut [u64], count: &mut usize) -> [u8; 
         call,
         counts: aside::counts(call.query),
     };
-    let room = relations::write::room_for(usize::from(evaluation.counts[e]));
-    let s = evaluation.node(room, e, words);
+    let s = evaluation.node(evaluation.room(e), e, words);
     let r = reading::bytes_of(s, call.tree.len() / 2);
     *count = sets::count_of(r);
     r

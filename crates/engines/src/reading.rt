@@ -27,7 +27,7 @@ fn meets(w: &[u64], x: usize, s: [u64; 4]) -> bool
     ensures { result ≡ meets (bit_relation w.now) s x }
 {
     let own = tables::row::get(w, x);
-    let both = tables::set::merged(sets::INTERSECTION, own, s);
+    let both = tables::set::merged(sets::Operation::Intersection, own, s);
     tables::row::is_occupied(&both, 0)
 }
 

@@ -6,16 +6,19 @@
 // A composition takes its left operand along where there is room: a step is composed with a whole table in a few passes over its rows,
 // and so is a run of steps and filters, from its end to its start. Only where a set operation or a star stands on the left are two
 // tables composed. The functions call each other, the entry number falling; a level of calls takes some hundred bytes and no table.
-ghost use Rattle.std.specs.Prelude.{◌≡◌, true, false, ◌≤◌, ◌<◌, length};
+ghost use Rattle.std.specs.Prelude.{◌≡◌, true, false, ◌≤◌, ◌<◌, length, get_or};
 ghost use Rattle.model.specs.Numbers.{kind_number};
 ghost use Rattle.model.specs.Tree.{size_of};
 ghost use Rattle.model.specs.Results.{assigned};
+ghost use Rattle.sets.specs.NodeSets.{operation_number};
 ghost use Rattle.aside.specs.Aside.{two_tables};
 ghost use Rattle.bits.specs.BitTables.{bit_relation};
 ghost use Rattle.bits.specs.Rows.{Becomes, starting_in};
 ghost use Rattle.relations.specs.Evaluation.{Asked, Joined, Waiting, operation, table_in, joined_in, applied_in, passed_in, passing_in, Leaves};
 
-use model::{Call, Kind, kind_of};
+use model::{Call, Kind, axis_of, kind_of};
+use sets::Operation;
+use std::cmp::max;
 
 // An evaluation: what it is lent, and how many tables each entry of the query keeps aside.
 #[derive(Clone, Copy)]
@@ -25,14 +28,14 @@ pub struct Evaluation<'a> {
 }
 
 // How the tables of two operands are combined, by the kind.
-fn operation(kind: Kind) -> u8
+fn operation(kind: Kind) -> Operation
     requires { (two_tables (kind_number kind) ≡ true) × (2 ≤ kind_number kind) }
-    ensures { result ≡ operation (kind_number kind) }
+    ensures { operation_number result ≡ operation (kind_number kind) }
 {
     match kind {
-        Kind::Union => sets::UNION,
-        Kind::Except => sets::DIFFERENCE,
-        _ => sets::INTERSECTION,
+        Kind::Union => Operation::Union,
+        Kind::Except => Operation::Difference,
+        _ => Operation::Intersection,
     }
 }
 
@@ -45,6 +48,15 @@ impl<'a> Evaluation<'a> {
         model::wide(self.call.nodes[k])
     }
 
+    // How many tables may stand aside for entry e: as many as it needs, and two at least, so that a set operation or a star in a run of
+    // steps, or a filter with a composition in it, can be applied to the table of what follows.
+    pub fn room(&self, e: usize) -> usize
+        requires { (e < 66) × (get_or self.now.counts e 0 ≤ 5) }
+        ensures { (get_or self.now.counts e 0 ≤ result) × (result ≤ 5) }
+    {
+        max(usize::from(self.counts[e]), 2)
+    }
+
     // The table of the path at entry e.
     #[cycle(tables)]
     pub fn table(&self, room: usize, e: usize, acc: &mut [u64])
@@ -55,8 +67,9 @@ impl<'a> Evaluation<'a> {
         let f = query::entry_at(self.call.query, e);
         match kind_of(f.kind) {
             Kind::Step => {
+                let axis = axis_of(f.left);
                 tables::diagonal(acc, n);
-                moves::step(self.call.tree, self.call.prev, f.left, f.tag, acc);
+                moves::step(self.call.tree, self.call.prev, axis, f.tag, acc);
             }
             Kind::Filter => {
                 let s = self.node(room, f.right, acc);
@@ -128,7 +141,10 @@ impl<'a> Evaluation<'a> {
         let n = self.call.tree.len() / 2;
         let f = query::entry_at(self.call.query, e);
         match kind_of(f.kind) {
-            Kind::Step => moves::step(self.call.tree, self.call.prev, f.left, f.tag, acc),
+            Kind::Step => {
+                let axis = axis_of(f.left);
+                moves::step(self.call.tree, self.call.prev, axis, f.tag, acc);
+            }
             Kind::Compose => {
                 self.apply(room, f.right, acc);
                 self.apply(room, f.left, acc);
@@ -195,17 +211,17 @@ impl<'a> Evaluation<'a> {
             }
             Kind::Not => {
                 let a = self.node(room, f.left, acc);
-                tables::set::merged(sets::DIFFERENCE, tables::set::full(n), a)
+                tables::set::merged(Operation::Difference, tables::set::full(n), a)
             }
             Kind::And => {
                 let a = self.node(room, f.left, acc);
                 let b = self.node(room, f.right, acc);
-                tables::set::merged(sets::INTERSECTION, a, b)
+                tables::set::merged(Operation::Intersection, a, b)
             }
             Kind::Or => {
                 let a = self.node(room, f.left, acc);
                 let b = self.node(room, f.right, acc);
-                tables::set::merged(sets::UNION, a, b)
+                tables::set::merged(Operation::Union, a, b)
             }
             _ => unreachable!(),
         }

@@ -5,11 +5,11 @@ use Rattle.relations.proofs.write.pairs_into.Goals as goal
 pub counts-requires : goal.counts-requires
 counts-requires c = let a = c.requires.0 in (a.shaped.formed, omega (arith, a.shaped.few))
 
-pub room_for-room-requires : goal.room_for-room-requires
-room_for-room-requires c = let p = c.requires in omega (arith, last_counted _ _ _ _ c.counts.ensures p.0, tables_five _ _ _ p.0)
+pub room-requires : goal.room-requires
+room-requires c = let p = c.requires in (omega (arith, p.0.last, p.0.shaped.few), omega (arith, last_counted _ _ _ _ c.counts.ensures p.0, tables_five _ _ _ p.0))
 
 pub table-requires : goal.table-requires
-table-requires c = let p = c.requires in ask_last _ _ _ _ _ _ c.room_for-room.result p.0 c.previous_siblings-prev.ensures c.counts.ensures (omega (arith, c.from.ensures, c.room_for-room.ensures.0)) p.1
+table-requires c = let p = c.requires in ask_last _ _ _ _ _ _ _ p.0 c.previous_siblings-prev.ensures c.counts.ensures c.room.ensures.0 p.1
 
 pub returns : goal.returns
 returns c = did_pairs _ _ _ _ _ c.table.ensures c.requires.1 (λ i. (c.type_inv.to i).fits)

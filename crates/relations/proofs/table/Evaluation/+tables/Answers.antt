@@ -5,7 +5,7 @@ use lib.ListN.{get_or}
 use lib.Dec.{ltb}
 use borrow.Author.Tests.{lt-ltb, le-ltb}
 use Rattle.model.proofs.KindTests.{path_on_left, path_on_right}
-use Rattle.eval.proofs.Calls.{other_kind, known_path, known_expr, root_on_left, some_on_left, star_on_left, expr_on_left, expr_on_right, filter_on_right, variable_named, is_named_lem, variable_within, variable_node, variable_small}
+use Rattle.eval.proofs.Calls.{axis_known, other_kind, known_path, known_expr, root_on_left, some_on_left, star_on_left, expr_on_left, expr_on_right, filter_on_right, variable_named, is_named_lem, variable_within, variable_node, variable_small}
 use Rattle.relations.specs.Evaluation.{operation}
 use Rattle.relations.proofs.Algebra.{leaves, leaves_on, leaves_none, becomes_on}
 use Rattle.relations.proofs.Entries.{did_step, did_compose, did_filter, did_variable, did_root, did_closure, joined_path, did_tables, did_combine, applied_step, applied_compose, applied_filter, applied_variable, applied_root, did_product, did_exists, did_same, did_negate, did_both, did_either, did_is, did_keep}
@@ -34,8 +34,11 @@ apply-spread-requires t c = let a = c.requires in let f = c.entry_at-f.ensures.0
 pub apply-apply-requires-in-Root : goal.apply-apply-requires-in-Root
 apply-apply-requires-in-Root t c = let a = c.requires in let f = c.entry_at-f.ensures.0 in let w = ask_left a f refl (root_on_left (sym c.in-Root.ensures)) in (omega (arith, w.0), w.1)
 
+pub apply-axis_of-axis-requires : goal.apply-axis_of-axis-requires
+apply-axis_of-axis-requires t c = let a = c.requires in axis_known c.entry_at-f.ensures.0 a.ready a.kinds.within (sym c.in-Step.ensures)
+
 pub apply-returns-in-Step : goal.apply-returns-in-Step
-apply-returns-in-Step t c = let a = c.requires in let f = c.entry_at-f.ensures.0 in applied_step f a.ready a.kinds.within c.step.ensures (sym c.in-Step.ensures)
+apply-returns-in-Step t c = let a = c.requires in let f = c.entry_at-f.ensures.0 in applied_step f a.ready a.kinds.within (rw c.axis_of-axis.ensures at c.step.ensures) (sym c.in-Step.ensures)
 
 pub apply-returns-in-Compose : goal.apply-returns-in-Compose
 apply-returns-in-Compose t c = let a = c.requires in let f = c.entry_at-f.ensures.0 in applied_compose f a.ready a.kinds.within c.apply-in-Compose.ensures c.apply.ensures (sym c.in-Compose.ensures)
@@ -165,8 +168,11 @@ table-operands-requires t c = let a = c.requires in let f = c.entry_at-f.ensures
           let m = known_path f a.ready a.kinds.within a.kinds.sort (other_kind w.in_default.not-Star c.kind_of.ensures) in let n0 = other_kind w.in_default.not-Step c.kind_of.ensures in let n1 = other_kind w.in_default.not-Compose c.kind_of.ensures in let n2 = other_kind w.in_default.not-Filter c.kind_of.ensures in let n3 = other_kind w.in_default.not-Variable c.kind_of.ensures in let n4 = other_kind w.in_default.not-Root c.kind_of.ensures in (omega arith, joins_path a f (omega (arith, m, n0)) (omega (arith, m, n2, n3, n4)) (λ z. absurd (n1 z)))
     ]
 
+pub table-axis_of-axis-requires : goal.table-axis_of-axis-requires
+table-axis_of-axis-requires t c = let a = c.requires in axis_known c.entry_at-f.ensures.0 a.ready a.kinds.within (sym c.in-Step.ensures)
+
 pub table-returns-in-Step : goal.table-returns-in-Step
-table-returns-in-Step t c = let a = c.requires in let f = c.entry_at-f.ensures.0 in did_step f a.ready a.kinds.within c.step.ensures c.diagonal.ensures (sym c.in-Step.ensures)
+table-returns-in-Step t c = let a = c.requires in let f = c.entry_at-f.ensures.0 in did_step f a.ready a.kinds.within (rw c.axis_of-axis.ensures at c.step.ensures) c.diagonal.ensures (sym c.in-Step.ensures)
 
 pub table-returns-in-Filter : goal.table-returns-in-Filter
 table-returns-in-Filter t c = let a = c.requires in let f = c.entry_at-f.ensures.0 in did_filter f a.ready a.kinds.within _ c.filter.ensures c.table.ensures c.node-s.ensures.0 _ c.node-s.ensures.1 (sym c.in-Filter.ensures)
