@@ -27,11 +27,8 @@ pub fn full_if(b: bool, n: usize) -> [u8; 256]
     requires { n ≤ 256 }
     ensures { result ≡ tab 256 (upto n (always b)) }
 {
-    let v = byte(b);
     let mut r = [0u8; 256];
-    for i in 0..n {
-        r[i] = v;
-    }
+    r[..n].fill(byte(b));
     r
 }
 
@@ -82,8 +79,8 @@ pub fn occupied(n: usize, s: [u8; 256]) -> bool
     ensures { result ≡ any n (memb s) }
 {
     let mut found = false;
-    for i in 0..n {
-        found = (s[i] != 0) | found;
+    for b in &s[..n] {
+        found = (*b != 0) | found;
     }
     found
 }
@@ -95,8 +92,8 @@ fn count_half(s: [u8; 256], at: usize) -> u8
     ensures { result ≡ ones (tab 128 (shifted at s)) }
 {
     let mut found = 0u8;
-    for i in 0..128 {
-        found += byte(s[at + i] != 0);
+    for b in &s[at..at + 128] {
+        found += byte(*b != 0);
     }
     found
 }
@@ -125,8 +122,8 @@ pub fn load(set: &[u8]) -> [u8; 256]
     ensures { result ≡ tab 256 (upto (length set.now) (memb set.now)) }
 {
     let mut r = [0u8; 256];
-    for i in 0..set.len() {
-        r[i] = byte(set[i] != 0);
+    for (i, b) in set.iter().enumerate() {
+        r[i] = byte(*b != 0);
     }
     r
 }
