@@ -57,6 +57,7 @@ impl From<Result<Indexed, Refusal>> for IndexReply {
 }
 
 // Refusal 20: one of two buffers has room for less than is needed.
+#[tactic(auto, using(model::proofs::Refusals::stop_err))]
 fn check_buffers(next: usize, n: usize, tags: usize, needed: usize) -> Result<(), Refusal>
     ensures { told result ≡ verdict (room_checks next n ++ room_checks tags needed) }
 {
