@@ -4,17 +4,17 @@ use native.Mathlib.Numerals.{add-one}
 use native.Mathlib.Nat.{mul-le-mul_right}
 use native.Mathlib.Omega.{arith}
 use mathlib.Core.Path.{◌≡◌, refl, sym, ap, ◌∙◌}
-use mathlib.Core.Bool.{Bool, false, ◌&&◌}
+use mathlib.Core.Bool.{Bool, ◌&&◌}
 use mathlib.Core.List.{List, [], ◌∷◌, ◌++◌, append_assoc}
 use borrow.Rule.Slice.PartMut.{put_mid}
 use lib.ListN.{length, get_or, take, drop, set, replicate, length-append, length-drop}
-use lib.Seq.{take_at, drop_at, drop-drop, length-take-le, sets-eq, paste-zero}
+use lib.Seq.{take_at, drop_at, drop-drop, length-take-le, paste-zero}
 use lib.Dec.{ltb}
 use borrow.Author.Tests.{lt-ltb, le-ltb}
 use Rattle.model.specs.Sets.{bit, tab, memb, upto}
 use Rattle.model.specs.Results.{cell}
 use Rattle.model.proofs.Bytes.{tab_none, tab_cong, tab_snoc, tab_append, length_tab, front_store, over_start, cell_at, row_next}
-use Rattle.sets.specs.NodeSets.{always, shifted}
+use Rattle.sets.specs.NodeSets.{shifted}
 use Rattle.bits.specs.Words.{test_bit, word, words, has_bit}
 use Rattle.bits.specs.BitTables.{bit_cell, bit_table, byte_table, bit_relation, byte_relation}
 use Rattle.bits.proofs.Words.{word_cong, word_none, word_short, length_words, words_of, words_cong, words_append, has_bit_at, test_none}

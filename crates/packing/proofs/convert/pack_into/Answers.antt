@@ -1,7 +1,5 @@
 use native.Mathlib.Omega.{arith}
-use mathlib.Core.Path.{refl, ap, ◌∙◌}
-use Rattle.model.proofs.Bytes.{row_fits}
-use Rattle.packing.proofs.Rows.{words_start, words_more, words_end, words_length}
+use Rattle.packing.proofs.Rows.{words_start, words_more, words_end}
 use Rattle.packing.proofs.convert.pack_into.Goals as goal
 
 pub loop-x-init : goal.loop-x-init

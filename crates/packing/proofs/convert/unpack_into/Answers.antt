@@ -1,7 +1,5 @@
 use native.Mathlib.Omega.{arith}
-use mathlib.Core.Path.{refl}
-use Rattle.model.proofs.Bytes.{row_fits, length_over}
-use Rattle.packing.proofs.Rows.{bytes_start, row_within, bytes_more, bytes_end}
+use Rattle.packing.proofs.Rows.{bytes_start, bytes_more, bytes_end}
 use Rattle.packing.proofs.convert.unpack_into.Goals as goal
 
 pub loop-x-init : goal.loop-x-init

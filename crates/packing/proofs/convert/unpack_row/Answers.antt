@@ -1,7 +1,5 @@
-use Prim.Native.Nat.{◌+◌, ◌*◌}
 use native.Mathlib.Omega.{arith}
-use mathlib.Core.Path.{◌≡◌, ap, ◌∙◌}
-use Rattle.packing.proofs.Rows.{part, part_start, part_length, part_done, part_word, part_next, part_whole}
+use Rattle.packing.proofs.Rows.{part_start, part_done, part_word, part_next, part_whole}
 use Rattle.packing.proofs.convert.unpack_row.Goals as goal
 
 pub loop-i-init : goal.loop-i-init
