@@ -28,12 +28,17 @@ pub fn image(
         columns nodes.now back from.now to.old
         (told_counting result) to.new }
 {
-    checks::check_image(tree, query, columns, nodes, from, to.len())?;
-    let count = write::image_into(tree, query, nodes, back, from, to);
-    Ok(count)
+    match checks::check_image(tree, query, columns, nodes, from, to.len()) {
+        Ok(()) => {
+            let count = write::image_into(tree, query, nodes, back, from, to);
+            Ok(count)
+        }
+        Err(e) => Err(e),
+    }
 }
 
 // All pairs of the query: (x, y) stands at x × n + y. As pairs in bits (relations::pairs), and one pass over the n × n bytes.
+#[tactic(auto, using(crate::proofs::Tables::pairs_refused))]
 pub fn pairs(
     tree: &[u16],
     query: &[u16],
@@ -53,6 +58,7 @@ pub fn pairs(
 
 // The same by the engine over sets, one evaluation for each of the n start nodes: kept so that the two engines can be compared. A function
 // that both share would take the writer, and be no shorter than the two calls here.
+#[tactic(auto, using(crate::proofs::Tables::pairs_refused))]
 pub fn pairs_by_rows(
     tree: &[u16],
     query: &[u16],

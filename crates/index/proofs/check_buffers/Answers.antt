@@ -1,5 +1,4 @@
-use Rattle.std.proofs.lemmas.Result.{err_from_is_err_and}
-use Rattle.model.proofs.Refusals.{stop_err, pass_ok}
+use Rattle.model.proofs.Refusals.{pass_ok}
 use Rattle.index.proofs.Verdicts.{room_numbered}
 use Rattle.index.proofs.check_buffers.Goals as goal
 

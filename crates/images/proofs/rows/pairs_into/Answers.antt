@@ -14,9 +14,10 @@ pub overflow_add-at : goal.overflow_add-at
 overflow_add-at c = let f = row_fits _ _ _ c.loop-x.invariant.0 (search rules) in omega arith
 
 pub loop-x-preserved : goal.loop-x-preserved
-loop-x-preserved c =
-    (row_next _ _ _ c.loop-x.invariant.0,
-    row_over _ _ _ c.loop-x.invariant.0 _ _ _ _ _ c.put_row.ensures c.loop-x.invariant.1 c.row-r.ensures c.requires.0.tree.sound.at_most)
+loop-x-preserved c = (
+  row_next _ _ _ c.loop-x.invariant.0,
+  row_over _ _ _ c.loop-x.invariant.0 _ _ _ _ _ c.put_row.ensures c.loop-x.invariant.1 c.row-r.ensures c.requires.0.tree.sound.at_most,
+)
 
 pub shape_of-table : goal.shape_of-table
 shape_of-table c = search (rows_length, rules)
