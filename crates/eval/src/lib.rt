@@ -7,8 +7,9 @@
 // `nesting`, `engines`). Sets travel by value, so that a level of calls takes a few KiB of stack, and a query has at most 64 levels.
 //
 // Each evaluation tells how many nodes its result has, in a number that it is lent: a set is counted where it is made, and one that
-// is handed on keeps its count. What an operand tells is overwritten. The number is lent, and not returned beside the set: the C header
-// promises how much stack a call takes, and a level of calls with the pair has not the room.
+// is handed on keeps its count. What an operand tells is overwritten. The number is lent, and not returned beside the set: a set that is
+// part of a pair is copied once more where it is handed on, each copy has its place in a frame, and include/geznauri.h promises how much
+// stack a level of calls takes.
 #![tactic(auto)]
 
 ghost use Rattle.std.specs.Prelude.{◌≡◌, true, false, ◌≤◌, ◌<◌, length};
@@ -71,8 +72,8 @@ fn operation(kind: Kind) -> Operation
 }
 
 // What a set reaches by the path at entry e, or what reaches the set where back is set. Of a composition the operand at the
-// side of the set goes first. The test of a filter holds at the end node: forwards it cuts the image, backwards the set.
-#[cycle(by_rows_ends_node_operands_path_same_star)]
+// side of the set goes first.
+#[cycle(evaluation)]
 pub fn path(call: &Call, e: usize, back: bool, from: [u8; 256], count: &mut usize) -> [u8; 256]
     requires { ReadyFor call.now × SortIn call.now e true }
     ensures { (result ≡ reached_for call.now e back from) × (count.new ≡ ones result) }
@@ -94,15 +95,7 @@ pub fn path(call: &Call, e: usize, back: bool, from: [u8; 256], count: &mut usiz
         }
         Kind::Union => operands(call, e, back, from, count),
         Kind::Intersect | Kind::Except => by_rows(call, e, back, from, count),
-        Kind::Filter => {
-            let s = node(call, f.right, count);
-            if back {
-                let m = sets::combined(Operation::Intersection, from, s);
-                return path(call, f.left, back, m, count);
-            }
-            let m = path(call, f.left, back, from, count);
-            sets::combined_counted(Operation::Intersection, m, s, count)
-        }
+        Kind::Filter => filter(call, e, back, from, count),
         Kind::Star => star(call, e, back, from, count),
         Kind::Variable | Kind::Root => {
             let to = ends(call, e, count);
@@ -113,7 +106,7 @@ pub fn path(call: &Call, e: usize, back: bool, from: [u8; 256], count: &mut usiz
 }
 
 // The nodes where the node expression at entry e holds.
-#[cycle(by_rows_ends_node_operands_path_same_star)]
+#[cycle(evaluation)]
 pub fn node(call: &Call, e: usize, count: &mut usize) -> [u8; 256]
     requires { ReadyFor call.now × SortIn call.now e false }
     ensures { (result ≡ passed_for call.now e) × (count.new ≡ ones result) }
@@ -145,10 +138,27 @@ pub fn node(call: &Call, e: usize, count: &mut usize) -> [u8; 256]
     }
 }
 
+// A filter. Its test holds at the end node: forwards it cuts the image, backwards the set. It has a frame of its own, as operands has.
+#[cycle(evaluation)]
+#[inline(never)]
+fn filter(call: &Call, e: usize, back: bool, from: [u8; 256], count: &mut usize) -> [u8; 256]
+    requires { ReadyFor call.now × KindIn call.now e 5 5 }
+    ensures { (result ≡ reached_for call.now e back from) × (count.new ≡ ones result) }
+{
+    let f = query::entry_at(call.query, e);
+    let s = node(call, f.right, count);
+    if back {
+        let m = sets::combined(Operation::Intersection, from, s);
+        return path(call, f.left, back, m, count);
+    }
+    let m = path(call, f.left, back, from, count);
+    sets::combined_counted(Operation::Intersection, m, s, count)
+}
+
 // What a set reaches by each operand of a union, intersect or except, combined so. For a union that is what the set
 // reaches by the entry itself; for the others it is only where the set has one node. It has a frame of its own, so that a level of
 // `path` without it takes less stack.
-#[cycle(by_rows_ends_node_operands_path_same_star)]
+#[cycle(evaluation)]
 #[inline(never)]
 fn operands(call: &Call, e: usize, back: bool, from: [u8; 256], count: &mut usize) -> [u8; 256]
     requires { ReadyFor call.now × KindIn call.now e 2 4 }
@@ -162,7 +172,7 @@ fn operands(call: &Call, e: usize, back: bool, from: [u8; 256], count: &mut usiz
 }
 
 // An intersect or except, one start node after the other.
-#[cycle(by_rows_ends_node_operands_path_same_star)]
+#[cycle(evaluation)]
 fn by_rows(call: &Call, e: usize, back: bool, from: [u8; 256], count: &mut usize) -> [u8; 256]
     requires { ReadyFor call.now × KindIn call.now e 3 4 }
     ensures { (result ≡ reached_for call.now e back from) × (count.new ≡ ones result) }
@@ -182,7 +192,7 @@ fn by_rows(call: &Call, e: usize, back: bool, from: [u8; 256], count: &mut usize
 }
 
 // The nodes at which a variable or a path from the root ends, from any start. It has a frame of its own, as operands has.
-#[cycle(by_rows_ends_node_operands_path_same_star)]
+#[cycle(evaluation)]
 #[inline(never)]
 fn ends(call: &Call, e: usize, count: &mut usize) -> [u8; 256]
     requires { ReadyFor call.now × KindIn call.now e 6 7 }
@@ -204,7 +214,7 @@ fn ends(call: &Call, e: usize, count: &mut usize) -> [u8; 256]
 
 // A star: from the nodes found last the operand is followed on, until it finds none that is new. At most n rounds, since each but the last
 // finds a node more, and each node is followed from once.
-#[cycle(by_rows_ends_node_operands_path_same_star)]
+#[cycle(evaluation)]
 fn star(call: &Call, e: usize, back: bool, from: [u8; 256], count: &mut usize) -> [u8; 256]
     requires { ReadyFor call.now × KindIn call.now e 13 13 }
     ensures { (result ≡ reached_for call.now e back from) × (count.new ≡ ones result) }
@@ -231,7 +241,7 @@ fn star(call: &Call, e: usize, back: bool, from: [u8; 256], count: &mut usize) -
 
 // The nodes from which both operands of a `same` reach some one node: one start node after the other, since from more than one
 // they might reach it from different ones.
-#[cycle(by_rows_ends_node_operands_path_same_star)]
+#[cycle(evaluation)]
 fn same(call: &Call, e: usize, count: &mut usize) -> [u8; 256]
     requires { ReadyFor call.now × KindIn call.now e 14 14 }
     ensures { (result ≡ passed_for call.now e) × (count.new ≡ ones result) }

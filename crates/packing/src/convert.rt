@@ -81,7 +81,8 @@ fn unpack_word(w: u64, count: usize, bytes: &mut [u8], at: usize)
     ensures { bytes.new
         ≡ take at bytes.old ++ tab count (test_bit w) ++ drop (at + count) bytes.old }
 {
-    if w == 0 {
+    let empty = w == 0;
+    if empty {
         bytes[at..at + count].fill(0);
         return;
     }

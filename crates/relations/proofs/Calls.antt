@@ -22,17 +22,12 @@ use Rattle.eval.proofs.Calls.{other_kind, Operand, same_on_both, left_path_lem, 
 use Rattle.aside.specs.Aside.{aside_at, in_turn, two_tables}
 use Rattle.aside.proofs.Turns.{two_kinds}
 use Rattle.aside.proofs.Entries.{aside_left, aside_right, aside_two}
-use Rattle.bits.specs.Words.{words}
 use Rattle.bits.specs.Rows.{Becomes}
-use Rattle.bits.proofs.Words.{length_words}
-use Rattle.relations.specs.Evaluation.{Asks, Joins, Waits, operation, table_at, passed_bits}
+use Rattle.relations.specs.Evaluation.{Asks, Joins, Waits, operation, table_at}
 
 module _ {t prev q nodes counts : List ℕ} {room e : ℕ} {path : Bool} {more : ℕ} {acc : List ℕ} (a : Asks t prev q nodes counts room e path more acc) where
   pub small_tree : size_of t ≤ 256
   small_tree = a.ready.linked.tree.sound.at_most
-
-  pub some_node : 0 < size_of t
-  some_node = a.ready.linked.tree.sound.some_node
 
   -- the same entry, with room for another number of tables, over words of the same length
   pub ask_same : {acc' : List ℕ} (space m : ℕ) → aside_at q e + m ≤ space → length acc' ≡ length acc → Asks t prev q nodes counts space e path m acc'
@@ -84,9 +79,6 @@ module _ {t prev q nodes counts : List ℕ} {room e : ℕ} {path : Bool} {more :
     module _ (h : right_path f.kind ≡ true) where
       counted_right : get_or counts f.right 0 ≡ aside_at q f.right
       counted_right = a.counted.at f.right (right_path_lem fe a.ready a.kinds.within h).kinds.within
-
-      pub right_index : f.right < length counts
-      right_index = omega (arith, (right_path_lem fe a.ready a.kinds.within h).kinds.within, a.few, a.counted.size)
 
 -- one of two numbers by a flag
 pub first_of : (b : Bool) (x y : ℕ) {i : ℕ} → b ≡ true → i ≡ x → i ≡ cond b x y
@@ -198,14 +190,6 @@ module _ {t prev q nodes counts : List ℕ} {room e : ℕ} {turned : Bool} {acc 
 
   pub straight_right : cond turned f.left f.right ≡ f.right
   straight_right = rw straight
-
--- a row of bits has four words
-pub four : (S : ℕ → Bool) (s : List ℕ) → s ≡ words 4 S → length s ≡ 4
-four S s p = rw p (length_words 4 S)
-
-pub passed_four : (t q nodes : List ℕ) (e : ℕ) (s : List ℕ) → s ≡ passed_bits t q nodes e → length s ≡ 4
-unfolding passed_bits
-passed_four t q nodes e s p = four _ s p
 
 -- the node of a variable, as it is read
 pub assigned_is : (nodes : List ℕ) (k v : ℕ) → v ≡ get_or nodes k 0 → v ≡ assigned nodes k

@@ -11,11 +11,11 @@ bounds-r-p c = sends_below _ _ _ _ c.if-sends.true (omega arith)
 
 pub loop-y-preserved-then-sends : goal.loop-y-preserved-then-sends
 unfolding memb
-loop-y-preserved-then-sends c = (omega arith, part_store _ _ _ _ _ _ _ c.loop-y.invariant.1 c.wide-p.ensures.0 (omega arith) (omega arith) (omega arith) c.if-sends.true)
+loop-y-preserved-then-sends c = (omega arith, part_store _ _ _ _ _ _ _ c.loop-y.invariant.1 c.from-p.ensures (omega arith) (omega arith) (omega arith) c.if-sends.true)
 
 pub loop-y-preserved : goal.loop-y-preserved
 unfolding memb
-loop-y-preserved c = (omega arith, part_skip _ _ _ _ _ _ _ c.loop-y.invariant.1 c.wide-p.ensures.0 (omega arith) (omega arith) (omega arith) c.if-sends.false)
+loop-y-preserved c = (omega arith, part_skip _ _ _ _ _ _ _ c.loop-y.invariant.1 c.from-p.ensures (omega arith) (omega arith) (omega arith) c.if-sends.false)
 
 pub returns : goal.returns
 returns c = part_done _ _ _ _ _ _ c.loop-y.invariant.1 (omega arith)
