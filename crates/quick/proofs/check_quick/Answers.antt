@@ -13,7 +13,7 @@ pub check_sharing-requires : goal.check_sharing-requires
 check_sharing-requires c = listing_shaped _ _ _ c.args.cursor c.args.room _ c.in_ok-check_listing.ensures refl
 
 pub returns-in_err-check_sharing : goal.returns-in_err-check_sharing
-returns-in_err-check_sharing c = let p = err_from_is_err_and c.from_residual-2.result c.from_residual-2.ensures.1 in rw (p.1, p.2) (sharing_stop _ _ _ _ _ _ c.in_ok-check_listing.ensures refl _ c.in_err-check_sharing.ensures (refused_some _))
+returns-in_err-check_sharing c = let p = err_from_is_err_and c.from_residual-in_err-check_sharing.result c.from_residual-in_err-check_sharing.ensures.1 in rw (p.1, p.2) (sharing_stop _ _ _ _ _ _ c.in_ok-check_listing.ensures refl _ c.in_err-check_sharing.ensures (refused_some _))
 
 pub check_paging-requires : goal.check_paging-requires
 check_paging-requires c = listing_few _ _ _ _ c.in_ok-check_listing.ensures refl
