@@ -8,8 +8,10 @@ use lib.Dec.{ltb, eqb}
 use lib.ListN.{length, drop}
 use borrow.Author.Tests.{le-ltb, eqb-true, eq-eqb, ne_eqb}
 use Rattle.model.specs.Sets.{any}
-use Rattle.model.specs.Refusals.{Check, lowest, refuse_here, refuse_at, reply, counting, making, verdict, written}
+use Rattle.model.specs.Refusals.{Check, lowest, refuse_here, refuse_at, reply, counting, making, verdict, written, refused}
 use Rattle.model.specs.Services.{Leaves, leaving}
+use Rattle.model.specs.declared.refusal.Refusal.{Refusal}
+use Rattle.model.specs.declared.refusal.Refusal.TheVariants.{JobLength, JobMark, JobPart, JobOverlap, TreeSize, BadParent, ReservedTag, QueryLength, VariableCount, UnknownKind, BadField, LateOperand, WrongSort, Misused, NoPath, NodeCount, NoNode, SetLength, BadByte, Room, NameTable, NoName, TextLength, Ungrammatical, UnknownName, TooManyEntries, BadIndex, StrayBit, SharedVariable, BadOwner, UnknownParty, NoStart}
 use Rattle.model.specs.declared.Reply.{Reply}
 use Rattle.model.specs.declared.ImageReply.{ImageReply}
 use Rattle.model.specs.declared.MadeReply.{MadeReply}
@@ -172,3 +174,48 @@ module _ (r : MadeReply) (u v : Reply) (same : u ≡ v) (table out : List ℕ) w
   pub leaves_table : (n : ℕ) (after : List ℕ) → r ≡ making u n → after ≡ table ++ drop n out → u.number ≡ 0 → length table ≡ n → Leaves (leaving v table out) r after
   leaves_table n after p a z l =
       (p ∙ ap (λ (v : Reply). making v n) same ∙ rw (eq-eqb v.number 0 (sym (ap (λ (v : Reply). v.number) same) ∙ z), l), written_over u v table out after n a same z l)
+
+-- checks that return an error
+
+-- no refusal has the number 0
+pub refused_some : (e : Refusal) → (refused e).number ≡ 0 → ⊥
+refused_some JobLength h = cc
+refused_some JobMark h = cc
+refused_some (JobPart x) h = cc
+refused_some JobOverlap h = cc
+refused_some TreeSize h = cc
+refused_some (BadParent x) h = cc
+refused_some (ReservedTag x) h = cc
+refused_some QueryLength h = cc
+refused_some VariableCount h = cc
+refused_some (UnknownKind x) h = cc
+refused_some (BadField x) h = cc
+refused_some (LateOperand x) h = cc
+refused_some (WrongSort x) h = cc
+refused_some (Misused x) h = cc
+refused_some (NoPath x) h = cc
+refused_some NodeCount h = cc
+refused_some (NoNode x) h = cc
+refused_some SetLength h = cc
+refused_some (BadByte x) h = cc
+refused_some Room h = cc
+refused_some (NameTable x) h = cc
+refused_some NoName h = cc
+refused_some TextLength h = cc
+refused_some (Ungrammatical x) h = cc
+refused_some (UnknownName x) h = cc
+refused_some TooManyEntries h = cc
+refused_some (BadIndex x) h = cc
+refused_some (StrayBit x) h = cc
+refused_some (SharedVariable x) h = cc
+refused_some (BadOwner x) h = cc
+refused_some UnknownParty h = cc
+refused_some NoStart h = cc
+
+-- an error of the first checks is the verdict of all
+pub stop_err : (a b : List Check) (e : Refusal) → refused e ≡ verdict a → refused e ≡ verdict (a ++ b)
+stop_err a b e p = stop_all a b (refused e) p (refused_some e)
+
+-- where the first checks let through, the others decide
+pub pass_ok : (a b : List Check) (r : Reply) → r ≡ verdict b → reply 0 0 ≡ verdict a → numbered a ≡ true → r ≡ verdict (a ++ b)
+pass_ok a b r q p n = pass_all a b (reply 0 0) r q p refl n

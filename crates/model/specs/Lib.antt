@@ -6,6 +6,7 @@ pub mod Syntax
 pub mod Meaning
 pub mod QueryTable
 pub mod Kinds
+pub mod Numbers
 pub mod Results
 pub mod Answers
 pub mod Pages

@@ -1,8 +1,16 @@
 // The types that every layer shares. What a reader must believe of the engine is in specs/.
 #![tactic(auto)]
 
+mod kind;
+mod refusal;
+mod search;
+
 ghost use Rattle.std.specs.Prelude.{◌≡◌, ◌++◌, ◌≤◌, ◌<◌, length, take, drop};
 ghost use Rattle.model.specs.Refusals.{reply, counting, making};
+
+pub use kind::{Axis, Kind, axis_of, kind_of};
+pub use refusal::Refusal;
+pub use search::lowest;
 
 // The reply to a call: 0 and 0, or the number and the place of a refusal.
 #[repr(C)]
@@ -65,6 +73,28 @@ pub struct ReadReply {
     pub columns: u16,
 }
 
+// A page of answers: how many rows it wrote, whether a later row exists, and the cursor after it.
+#[derive(Clone, Copy)]
+pub struct Page {
+    pub count: usize,
+    pub more: bool,
+    pub cursor: Cursor,
+}
+
+// A quick page: the page, and how many evaluations of the query it took.
+#[derive(Clone, Copy)]
+pub struct QuickPage {
+    pub page: Page,
+    pub evaluations: usize,
+}
+
+// A query that was read: how many numbers its table has, and how many variables.
+#[derive(Clone, Copy)]
+pub struct Read {
+    pub count: usize,
+    pub columns: u16,
+}
+
 // Where a caller stands in the answers of a query (document 01: the walk): whether paging has begun, 0 if not and any other
 // byte if so, and the last row given, as three node numbers. All zero is a fresh cursor.
 #[repr(C)]
@@ -83,6 +113,16 @@ pub struct Entry {
     pub left: usize,
     pub right: usize,
     pub tag: usize,
+}
+
+// What an evaluation is lent: the tree and each node's previous sibling, as tables of two numbers a node, the query, and the node of each
+// variable.
+#[derive(Clone, Copy)]
+pub struct Call<'a> {
+    pub tree: &'a [u16],
+    pub prev: &'a [u16],
+    pub query: &'a [u16],
+    pub nodes: &'a [u16],
 }
 
 // A number of a table as an index.
@@ -130,9 +170,5 @@ pub fn copy(table: &[u16], count: usize, to: &mut [u16])
     requires { (count ≤ length table.now) × (count ≤ length to.old) }
     ensures { to.new ≡ take count table.now ++ drop count to.old }
 {
-    let mut i = 0;
-    while i < count {
-        to[i] = table[i];
-        i += 1;
-    }
+    to[..count].copy_from_slice(&table[..count]);
 }
