@@ -14,7 +14,7 @@ pub type Words = [u64; 1040];
 
 // Item k of a list; 0 past the end.
 pub fn at<T: Copy + Default>(items: &[T], k: usize) -> T {
-    items.get(k).copied().unwrap_or_default()
+    if k < items.len() { items[k] } else { T::default() }
 }
 
 // Writes item k of a list, where it has one.
@@ -91,10 +91,7 @@ impl<const N: usize> Numbers<N> {
 
     // Number k; 0 past the end.
     pub fn at(&self, k: usize) -> usize {
-        if k < self.length {
-            return usize::from(at(&self.numbers, k));
-        }
-        0
+        if (k < self.length) & (k < N) { usize::from(self.numbers[k]) } else { 0 }
     }
 
     // Writes number k, unless it has more than 16 bits.
