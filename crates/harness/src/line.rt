@@ -54,17 +54,12 @@ impl Line {
                     let value = reading.open.unwrap_or(0);
                     reading.open = Some(shifted(value, digit - b'0'));
                 }
-                other => {
-                    line.close(&mut reading);
-                    if (other == b'|') | (other == b'#') | (other == b'\n') {
-                        line.part(&mut reading);
-                    }
-                    if (other == b'#') | (other == b'\n') {
-                        return line;
-                    }
-                }
+                b'|' => line.part(&mut reading),
+                b'#' => break,
+                _ => line.close(&mut reading),
             }
         }
+        line.part(&mut reading);
         line
     }
 
@@ -77,8 +72,9 @@ impl Line {
         }
     }
 
-    // A part ends.
+    // A part ends, and with it the open number.
     fn part(&mut self, reading: &mut Reading) {
+        self.close(reading);
         table::put(&mut self.ends, reading.part, reading.count);
         reading.part = reading.part.wrapping_add(1);
     }
@@ -86,7 +82,11 @@ impl Line {
     // The numbers of a part.
     pub fn numbers(&self, part: usize) -> &[usize] {
         let end = table::at(&self.ends, part).min(NUMBERS);
-        let before = if part == 0 { 0 } else { table::at(&self.ends, part - 1) };
+        let before = if part == 0 {
+            0
+        } else {
+            table::at(&self.ends, part - 1)
+        };
         let start = before.min(end);
         &self.numbers[start..end]
     }

@@ -14,7 +14,11 @@ pub type Words = [u64; 1040];
 
 // Item k of a list; 0 past the end.
 pub fn at<T: Copy + Default>(items: &[T], k: usize) -> T {
-    if k < items.len() { items[k] } else { T::default() }
+    if k < items.len() {
+        items[k]
+    } else {
+        T::default()
+    }
 }
 
 // Writes item k of a list, where it has one.
@@ -91,7 +95,11 @@ impl<const N: usize> Numbers<N> {
 
     // Number k; 0 past the end.
     pub fn at(&self, k: usize) -> usize {
-        if (k < self.length) & (k < N) { usize::from(self.numbers[k]) } else { 0 }
+        if (k < self.length) & (k < N) {
+            usize::from(self.numbers[k])
+        } else {
+            0
+        }
     }
 
     // Writes number k, unless it has more than 16 bits.

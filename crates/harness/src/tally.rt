@@ -67,23 +67,38 @@ const TOLD: [(Sum, &[u8]); 26] = [
     (Sum::Empty, b"lists of no row: "),
     (Sum::Full, b"lists of every row: "),
     (Sum::Blocks, b"lists with nothing to look for: "),
-    (Sum::BlocksAfterOne, b"lists with a block to leave out after one variable: "),
-    (Sum::BlocksAfterTwo, b"lists with a block to leave out after two: "),
-    (Sum::Kept, b"lists with gaps, of two variables or more, within the rule: "),
+    (
+        Sum::BlocksAfterOne,
+        b"lists with a block to leave out after one variable: ",
+    ),
+    (
+        Sum::BlocksAfterTwo,
+        b"lists with a block to leave out after two: ",
+    ),
+    (
+        Sum::Kept,
+        b"lists with gaps, of two variables or more, within the rule: ",
+    ),
     (Sum::Evaluations, b"evaluations of quick pages: "),
     (Sum::Broken, b"damaged indexes refused: "),
     (Sum::Unseen, b"damaged indexes not refused: "),
     (Sum::Changed, b"of these with another answer: "),
     (Sum::Documents, b"trees with a document node: "),
     (Sum::LeftOut, b"of these with a star that leaves it out: "),
-    (Sum::Closing, b"random queries with a closure that decides: "),
+    (
+        Sum::Closing,
+        b"random queries with a closure that decides: ",
+    ),
     (Sum::Meeting, b"random queries with a same that decides: "),
     (Sum::Deep, b"deep queries: "),
     (Sum::Mixed, b"of these with some pairs and not all: "),
     (Sum::Deciding, b"of these with a closure that decides: "),
     (Sum::Shared, b"parties asking for a random table: "),
     (Sum::Hiding, b"of these with a node hidden: "),
-    (Sum::Through, b"of these with a node hidden by an ancestor alone: "),
+    (
+        Sum::Through,
+        b"of these with a node hidden by an ancestor alone: ",
+    ),
 ];
 
 // The replies by their number, 0 to 36, and the sums.
@@ -226,10 +241,10 @@ impl Tally {
 
     // A part of the input ends, with a line `= NAME`.
     pub fn end_part(&mut self, text: &[u8]) {
-        if text.len() < 3 {
+        let Some(name) = text.get(2..) else {
             return;
-        }
-        io::write_all(1, &text[2..text.len() - 1]);
+        };
+        io::write_all(1, name);
         io::write_all(1, b": ");
         show_number(self.at(Sum::ComparedHere), b" compared, ");
         show_number(self.at(Sum::FailedHere), b" failed\n");

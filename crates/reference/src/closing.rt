@@ -33,7 +33,10 @@ fn widen(seed: &mut Seed, query: &mut Query) {
 }
 
 fn is_join(kind: Kind) -> bool {
-    matches!(kind, Kind::Compose | Kind::Union | Kind::Intersect | Kind::Except)
+    matches!(
+        kind,
+        Kind::Compose | Kind::Union | Kind::Intersect | Kind::Except
+    )
 }
 
 // Appends an entry or, where there is room for more, now and then something else: for a join a filter; the closure behind it; or that
@@ -56,7 +59,8 @@ fn append(seed: &mut Seed, query: &mut Query, f: Entry, room: usize) {
 
 // How many entries more than there were come within 64, where so many are written for the first e.
 fn spare(entries: usize, e: usize, written: usize) -> usize {
-    e.wrapping_add(64).wrapping_sub(entries.wrapping_add(written))
+    e.wrapping_add(64)
+        .wrapping_sub(entries.wrapping_add(written))
 }
 
 // Writes the entries of a query anew, as far as 64 entries reach.

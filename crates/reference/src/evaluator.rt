@@ -191,7 +191,10 @@ fn holds(pairs: &Pairs, asked: &Asked, f: Entry, x: usize, y: usize) -> bool {
         Kind::Is => (x == y) && (x == asked.nodes.at(f.left)),
         Kind::Star => false,
         Kind::Same => {
-            let turned = Relation { back: true, ..right };
+            let turned = Relation {
+                back: true,
+                ..right
+            };
             (x == y) && is_composed(relation, turned, x, x)
         }
     }

@@ -56,8 +56,16 @@ impl Space {
         model::Cursor {
             begun: 1,
             first: table::narrow(self.node(row, 0)),
-            second: choose(1 < self.columns, table::narrow(self.node(row, 1)), cursor.second),
-            third: choose(2 < self.columns, table::narrow(self.node(row, 2)), cursor.third),
+            second: choose(
+                1 < self.columns,
+                table::narrow(self.node(row, 1)),
+                cursor.second,
+            ),
+            third: choose(
+                2 < self.columns,
+                table::narrow(self.node(row, 2)),
+                cursor.third,
+            ),
         }
     }
 

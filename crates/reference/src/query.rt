@@ -110,7 +110,9 @@ pub struct Query {
 impl Query {
     // No entry yet.
     pub fn new() -> Query {
-        Query { table: Table::new() }
+        Query {
+            table: Table::new(),
+        }
     }
 
     pub fn numbers(&self) -> &[u16] {

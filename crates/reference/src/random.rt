@@ -1,7 +1,8 @@
 // Trees, queries, assignments and node sets from a seed. Each is accepted by the way it is made.
 use super::query::{ANY_NODE, Entry, Query, STAR, Sort, left_of, right_of, sort_of};
 use super::tree::{DOCUMENT, Tree};
-use harness::{line::Line, table};
+use harness::line::Line;
+use harness::table;
 use model::{Axis, Kind};
 
 #[derive(Clone, Copy)]

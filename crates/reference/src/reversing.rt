@@ -62,7 +62,11 @@ fn converse(axis: usize) -> usize {
     if axis == 0 {
         return 0;
     }
-    if axis % 2 == 0 { before(axis) } else { plus(axis, 1) }
+    if axis % 2 == 0 {
+        before(axis)
+    } else {
+        plus(axis, 1)
+    }
 }
 
 // A plan of the new table, and the table as far as it is laid.

@@ -43,7 +43,11 @@ fn filter(seed: &mut Seed, query: &mut Query, k: usize, columns: usize, keeps: b
 
 // The variable after so many others, counted round.
 fn variable(k: usize, columns: usize) -> usize {
-    if k < columns { k } else { k.wrapping_sub(columns) }
+    if k < columns {
+        k
+    } else {
+        k.wrapping_sub(columns)
+    }
 }
 
 // The query is filtered for each variable, with a path between: as P[. is $1]/child::*[. is $0].

@@ -12,7 +12,9 @@ pub struct Tree {
 impl Tree {
     // No node yet.
     pub fn new() -> Tree {
-        Tree { table: Table::new() }
+        Tree {
+            table: Table::new(),
+        }
     }
 
     pub fn numbers(&self) -> &[u16] {
