@@ -15,6 +15,9 @@ from repository import end, uncommented
 ENSURES = re.compile(r"^ +ensures(?: \w+)? \{([^{}]*)\}$", re.M)
 CLAUSE = re.compile(r"^ +(?:requires|ensures)\b", re.M)
 RESULT = "result"
+# the definitions that turn what a service returns into C's reply, or into a lent cursor at exit; none of them loses anything
+# (crates/model/proofs/Refusals.antt: told_once)
+READINGS = {"told", "told_making", "told_counting", "told_page", "told_quick", "told_read", "told_index", "cursor_after", "cursor_after_quick"}
 
 
 def term(text):
@@ -64,6 +67,8 @@ class Contract:
             return part[0], None
         if isinstance(part, list) and len(part) == 2 and part[0] == RESULT and part[1].startswith("."):
             return RESULT, part[1][1:]
+        if isinstance(part, list) and part[0] in READINGS and part[-1] == RESULT and not any(map(self.speaks, part[:-1])):
+            return RESULT, None
         return (RESULT, None) if part == RESULT else None
 
     def speaks(self, part):
@@ -128,11 +133,16 @@ BROKEN = [
     ("from: &[u8], to: &mut [u8]", "(result ≡ image_reply from.now to.old) × (to.new ≡ to.new)"),
     ("from: &[u8], to: &mut [u8]", "result ≡ image_reply from.now to.old", "to.new ≡ to.new"),
     ("from: &[u8], to: &mut [u8]", "ImageLeaves to.old result to.new"),
+    ("tree: &[u16]", "length result ≡ verdict (tree_checks tree.now)"),
+    ("tree: &[u16]", "told result ≡ verdict (told result)"),
+    ("from: &[u8], to: &mut [u8]", "ImageLeaves from.now to.old (told_counting result to.new) to.new"),
     ("from: &[u8], to: &mut [u8]", "ImageLeaves from.now to.old result to.exit"),
 ]
 SOUND = [
     ("tree: &[u16]", "result ≡ verdict (tree_checks tree.now)"),
     ("from: &[u8], to: &mut [u8]", "ImageLeaves from.now to.old result to.new"),
+    ("tree: &[u16]", "told result ≡ verdict (tree_checks tree.now)"),
+    ("from: &[u8], to: &mut [u8]", "ImageLeaves from.now to.old (told_counting result) (cursor_after from.now result) to.new"),
     ("from: &[u8], to: &mut [u8]", "ImageLeaves from.now to.old result.number result.place to.new"),
     ("from: &[u8], to: &mut [u8]", "result ≡ image_reply from.now to.old", "to.new ≡ reply\n        from.now\n        to.old"),
 ]

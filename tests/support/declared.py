@@ -16,7 +16,9 @@ EXPORTED = re.compile(r'\bextern "C" fn\b|^ *#\[.*\b(?:no_mangle|export_name)\b'
 WORD = re.compile(r"[^\s(){};,]+")
 CLAUSE = re.compile(r"^    (requires|ensures)\b", re.M)
 TYPE = re.compile(r"(?:\b(\w+)::)?\b([A-Z]\w*)")
-SIGNATURE = re.compile(r"\bfn \w+(?:<[^>]*>)?\((.*?)\)(?: -> ([^{]*?))?\s*(?=requires\b|ensures\b|$)", re.S)
+SIGNATURE = re.compile(r"\bfn \w+(?:<(?:->|<[^<>]*>|[^<>])*>)?\((.*?)\)(?: -> ([^{]*?))?\s*(?=requires\b|ensures\b|$)", re.S)
+USED = re.compile(r"^(?:pub )?use (\w+)::(?:\w+::)*(?:(\w+)|\{([\w, \n]*)\});", re.M)
+OF_STD = {"Result", "Option", "Ok", "Err", "Some", "None", "Self"}
 UNTYPED = re.compile(r'^#\[.*|^ +[A-Z]\w*|"C"', re.M)  # an attribute, the name of a case, the name of a calling convention
 
 
@@ -138,10 +140,20 @@ def the_type(crate, name):
     return found[0]
 
 
+@functools.lru_cache(None)
+def homes(path):
+    """The crates of which a source file uses types by their names alone."""
+    found = {}
+    for crate, one, several in USED.findall(read(path)):
+        found.update({name: crate for name in re.findall(r"\w+", one + several) if crate in crates()})
+    return found
+
+
 def types(text, path):
     """The types of the source that a signature or a type of a file names, with or without the crate or module before them."""
-    own = path.split(os.sep)[1]
-    return [the_type(before if before in crates() else own, name) for before, name in TYPE.findall(UNTYPED.sub("", text))]
+    own, used = path.split(os.sep)[1], homes(path)
+    named = [(before, name) for before, name in TYPE.findall(UNTYPED.sub("", text)) if name not in OF_STD]
+    return [the_type(before if before in crates() else used.get(name, own), name) for before, name in named]
 
 
 def is_ours(module):
