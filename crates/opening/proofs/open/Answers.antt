@@ -1,11 +1,10 @@
-use native.Mathlib.Omega.{arith}
 use borrow.Author.Rules.{rules}
 use Rattle.opening.proofs.Entries.{opened_narrow}
 use Rattle.opening.proofs.Filling.{opens_start, opens_next, opens_end}
 use Rattle.opening.proofs.open.Goals as goal
 
 pub loop-e-init : goal.loop-e-init
-loop-e-init c = (omega arith, search (opens_start, rules))
+loop-e-init c = search (opens_start, rules)
 
 pub put-requires : goal.put-requires
 put-requires c =
