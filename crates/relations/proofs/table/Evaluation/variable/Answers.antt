@@ -1,6 +1,6 @@
 use borrow.Author.Rules.{rules}
 use Rattle.relations.proofs.Calls.{assigned_is}
-use Rattle.relations.proofs.table.variable.Goals as goal
+use Rattle.relations.proofs.table.Evaluation.variable.Goals as goal
 
 -- src/table.rt:30:1
 pub returns : goal.returns

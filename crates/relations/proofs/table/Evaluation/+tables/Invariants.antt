@@ -1,7 +1,7 @@
 -- Evaluation by whole tables meets its contracts, as one cycle. Measure: five times the entry number, and more in those functions that
 -- hand their own entry on.
 use Prim.Native.Nat.{◌+◌, ◌*◌}
-use Rattle.relations.proofs.table.+apply_keep_node_operands_product_second_table.Given as goal
+use Rattle.relations.proofs.table.Evaluation.+tables.Given as goal
 
 abbrev pub decreases-apply : goal.decreases-apply
 decreases-apply l = 5 * l.e + 4
