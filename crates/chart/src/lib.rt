@@ -7,7 +7,10 @@ pub mod rules;
 pub mod spans;
 pub mod words;
 
+use harness::sums::bit;
 use harness::table;
+use spans::{Chart, Spans};
+use words::{Symbol, WORDS};
 
 // The most bytes that a text may have.
 pub const MOST: usize = 63;
@@ -20,102 +23,73 @@ pub struct Verdicts {
     pub viable: u64,
 }
 
+impl Verdicts {
+    // The first so many bytes are grammatical.
+    pub fn is_whole(&self, length: usize) -> bool {
+        spans::has(self.whole, length)
+    }
+
+    // How many bytes of a text some grammatical text begins with: the place of refusal 24.
+    pub fn reach(&self, length: usize) -> usize {
+        (0..length)
+            .find(|p| !spans::has(self.viable, p.wrapping_add(1)))
+            .unwrap_or(length)
+    }
+}
+
 fn is_name_byte(b: u8) -> bool {
-    let letter = (b'a' <= b) & (b <= b'z') | (b'A' <= b) & (b <= b'Z');
-    letter | (b'0' <= b) & (b <= b'9') | (b == b'-') | (b == b'_')
+    matches!(b, b'a'..=b'z' | b'A'..=b'Z' | b'0'..=b'9' | b'-' | b'_')
 }
 
 // A name ends behind each of its bytes: which ones a text has depends on what follows.
-fn add_name(chart: &mut spans::Chart, text: &[u8], place: usize) {
-    let mut ends = 0;
-    let mut k = place;
-    while k < 63 {
-        if !is_name_byte(table::byte_at(text, k)) {
+fn add_name(chart: &mut Chart, text: &[u8], place: usize) {
+    let mut ends: u64 = 0;
+    for k in place..MOST {
+        if !is_name_byte(table::at(text, k)) {
             break;
         }
-        k += 1;
-        ends = ends | spans::bit(k);
+        ends |= bit(k + 1);
     }
-    let s = spans::Spans {
-        ends: ends,
-        fronts: ends | spans::bit(place),
+    let name = Spans {
+        ends,
+        fronts: ends | bit(place),
     };
-    spans::add(chart, rules::NAME, place, s);
+    chart.add(Symbol::Name, place, name);
 }
 
 // The places from one to another, both included.
 fn run(first: usize, last: usize) -> u64 {
-    let mut bits = 0;
-    let mut k = first;
-    while k < last {
-        bits = bits | spans::bit(k);
-        k += 1;
+    let mut bits: u64 = 0;
+    for k in first..=last {
+        bits |= bit(k);
     }
-    bits | spans::bit(last)
-}
-
-fn add_word(chart: &mut spans::Chart, text: &[u8], place: usize, word: usize) {
-    let common = words::common(text, place, word);
-    let end = std::num::wrapping_add_usize(place, common);
-    let fronts = run(place, end);
-    if common == words::length(word) {
-        let whole = spans::Spans {
-            ends: spans::bit(end),
-            fronts: fronts,
-        };
-        spans::add(chart, word, place, whole);
-        return;
-    }
-    let part = spans::Spans {
-        ends: 0,
-        fronts: fronts,
-    };
-    spans::add(chart, word, place, part);
+    bits
 }
 
 // All words at a place.
-fn add_words(chart: &mut spans::Chart, text: &[u8], place: usize) {
-    let mut word = 0;
-    while word < words::COUNT {
-        add_word(chart, text, place, word);
-        word += 1;
+fn add_words(chart: &mut Chart, text: &[u8], place: usize) {
+    for (word, bytes) in WORDS {
+        let common = words::common(text, place, bytes);
+        let end = place.wrapping_add(common);
+        let spans = Spans {
+            ends: if common == bytes.len() { bit(end) } else { 0 },
+            fronts: run(place, end),
+        };
+        chart.add(word, place, spans);
     }
 }
 
-// All symbols at a place, where all that start later are known.
-fn add_place(chart: &mut spans::Chart, text: &[u8], place: usize) {
-    add_words(chart, text, place);
-    add_name(chart, text, place);
-    spans::add(chart, rules::EMPTY, place, spans::point(place));
-    rules::add_all(chart, place);
-}
-
-// The verdicts on all fronts of a text, of at most 63 bytes.
+// The verdicts on all fronts of a text, of at most 63 bytes. All symbols at a place come when all that start later are known.
 pub fn judge(text: &[u8]) -> Verdicts {
-    let mut chart = [0u64; 8192];
-    let mut left = 64;
-    while 0 < left {
-        left -= 1;
-        if left <= text.len() {
-            add_place(&mut chart, text, left);
-        }
+    let mut chart = Chart::new();
+    for place in (0..=text.len().min(MOST)).rev() {
+        add_words(&mut chart, text, place);
+        add_name(&mut chart, text, place);
+        rules::add_all(&mut chart, place);
     }
-    let s = spans::at(&chart, rules::PATH, 0);
+    let s = chart.at(Symbol::Path, 0);
     Verdicts {
         whole: s.ends,
         viable: s.fronts,
     }
-}
-
-// How many bytes of a text some grammatical text begins with: the place of refusal 24.
-pub fn reach(v: Verdicts, length: usize) -> usize {
-    let mut p = 0;
-    while p < length {
-        let next = p + 1;
-        if !spans::has(v.viable, next) {
-            return p;
-        }
-        p = next;
-    }
-    p
 }

@@ -1,20 +1,15 @@
 // Of the texts of a symbol that start at a place: bit k of `ends` is set if one ends at place k, and bit k of `fronts` if the
 // bytes up to place k are all of one or the beginning of one.
-#[derive(Drop)]
+use super::words::Symbol;
+use harness::sums::bit;
+
+#[derive(Clone, Copy)]
 pub struct Spans {
     pub ends: u64,
     pub fronts: u64,
 }
 
-// The spans of 64 symbols at 64 places: ends and fronts.
-pub type Chart = [u64; 8192];
-
-pub fn bit(k: usize) -> u64 {
-    if k < 64 {
-        return 1 << k;
-    }
-    0
-}
+const NONE: Spans = Spans { ends: 0, fronts: 0 };
 
 pub fn has(bits: u64, k: usize) -> bool {
     bits & bit(k) != 0
@@ -28,56 +23,56 @@ pub fn point(place: usize) -> Spans {
     }
 }
 
-pub fn at(chart: &Chart, symbol: usize, place: usize) -> Spans {
-    if symbol < 64 {
-        if place < 64 {
-            let k = 128 * symbol + 2 * place;
-            return Spans {
-                ends: chart[k],
-                fronts: chart[k + 1],
-            };
-        }
-    }
-    Spans { ends: 0, fronts: 0 }
-}
-
-pub fn add(chart: &mut Chart, symbol: usize, place: usize, more: Spans) {
-    if symbol < 64 {
-        if place < 64 {
-            let k = 128 * symbol + 2 * place;
-            chart[k] = chart[k] | more.ends;
-            chart[k + 1] = chart[k + 1] | more.fronts;
+impl Spans {
+    fn or(self, more: Spans) -> Spans {
+        Spans {
+            ends: self.ends | more.ends,
+            fronts: self.fronts | more.fronts,
         }
     }
 }
 
-// The spans s, and those of a symbol that starts at place k, if that is one of the ends.
-fn further(s: Spans, chart: &Chart, ends: u64, symbol: usize, k: usize) -> Spans {
-    if !has(ends, k) {
-        return s;
-    }
-    let more = at(chart, symbol, k);
-    Spans {
-        ends: s.ends | more.ends,
-        fronts: s.fronts | more.fronts,
-    }
+// The spans of 64 symbols at 64 places.
+#[derive(Clone, Copy)]
+pub struct Chart {
+    spans: [Spans; 4096],
 }
 
-// A text with spans a, none of which starts before a place, and then one of a symbol.
-pub fn then(chart: &Chart, place: usize, a: Spans, symbol: usize) -> Spans {
-    let ends = a.ends;
-    let mut s = Spans {
-        ends: 0,
-        fronts: a.fronts,
-    };
-    let mut k = place;
-    while k < 64 {
-        if ends >> k == 0 {
-            return s;
+impl Chart {
+    // No text is known.
+    pub fn new() -> Chart {
+        Chart {
+            spans: [NONE; 4096],
         }
-        let next = further(s, chart, ends, symbol, k);
-        s = next;
-        k += 1;
     }
-    s
+
+    pub fn at(&self, symbol: Symbol, place: usize) -> Spans {
+        let number = symbol as usize;
+        if (number < 64) & (place < 64) {
+            return self.spans[64 * number + place];
+        }
+        NONE
+    }
+
+    pub fn add(&mut self, symbol: Symbol, place: usize, more: Spans) {
+        let number = symbol as usize;
+        if (number < 64) & (place < 64) {
+            let spans = self.spans[64 * number + place];
+            self.spans[64 * number + place] = spans.or(more);
+        }
+    }
+
+    // A text with spans a, none of which starts before a place, and then one of a symbol.
+    pub fn then(&self, place: usize, a: Spans, symbol: Symbol) -> Spans {
+        let mut spans = Spans { ends: 0, ..a };
+        for k in place..64 {
+            if a.ends >> k == 0 {
+                return spans;
+            }
+            if has(a.ends, k) {
+                spans = spans.or(self.at(symbol, k));
+            }
+        }
+        spans
+    }
 }

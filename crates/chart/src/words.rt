@@ -1,156 +1,139 @@
-// The words of the grammar, by number: the axes by their codes first.
+// The symbols of the grammar: words, with the axes by their codes first; any name; and the grammar's own.
 use harness::table;
 
-// Room for a text that is longer than one may be.
-pub type Bytes = [u8; 2048];
-
-// The words behind the axes.
-pub const DOUBLE_COLON: usize = 13;
-
-pub const STAR: usize = 14;
-
-pub const DOT: usize = 15;
-
-pub const DOTS: usize = 16;
-
-pub const DOLLAR: usize = 17;
-
-pub const ZERO: usize = 18;
-
-pub const ONE: usize = 19;
-
-pub const TWO: usize = 20;
-
-pub const OPEN: usize = 21;
-
-pub const CLOSE: usize = 22;
-
-pub const OPEN_FILTER: usize = 23;
-
-pub const CLOSE_FILTER: usize = 24;
-
-pub const SLASH_ONE: usize = 25;
-
-pub const SLASH_TWO: usize = 26;
-
-pub const UNION: usize = 27;
-
-pub const INTERSECT: usize = 28;
-
-pub const EXCEPT: usize = 29;
-
-pub const OR: usize = 30;
-
-pub const AND: usize = 31;
-
-pub const NOT: usize = 32;
-
-pub const IS: usize = 33;
-
-pub const ANY_NODE: usize = 34;
-
-pub const SAME: usize = 35;
-
-pub const CLOSE_STAR: usize = 36;
+#[derive(Clone, Copy, PartialEq, Eq)]
+pub enum Symbol {
+    Itself,
+    Child,
+    Parent,
+    Right,
+    Left,
+    Descendant,
+    Ancestor,
+    Following,
+    Preceding,
+    FollowingSibling,
+    PrecedingSibling,
+    DescendantOrSelf,
+    AncestorOrSelf,
+    DoubleColon,
+    Star,
+    Dot,
+    Dots,
+    Dollar,
+    Zero,
+    One,
+    Two,
+    Open,
+    Close,
+    OpenFilter,
+    CloseFilter,
+    SlashOne,
+    SlashTwo,
+    WordUnion,
+    WordIntersect,
+    WordExcept,
+    WordOr,
+    WordAnd,
+    OpenNot,
+    WordIs,
+    AnyNode,
+    WordSame,
+    CloseStar,
+    Name,
+    Axis,
+    NameTest,
+    Number,
+    Prim,
+    Filter,
+    Filters,
+    Step,
+    Slash,
+    Run,
+    MoreRun,
+    Rooted,
+    Inter,
+    MoreInter,
+    Path,
+    MorePath,
+    Unit,
+    Conj,
+    MoreConj,
+    Test,
+    MoreTest,
+    // A test that is no whole path.
+    Proper,
+}
 
 // How many words there are.
 pub const COUNT: usize = 37;
 
-// What fills a word up to 20 bytes.
-const END: u8 = b'~';
-
-const WORDS: [[u8; 20]; 37] = [
-    *b"self~~~~~~~~~~~~~~~~",
-    *b"child~~~~~~~~~~~~~~~",
-    *b"parent~~~~~~~~~~~~~~",
-    *b"right~~~~~~~~~~~~~~~",
-    *b"left~~~~~~~~~~~~~~~~",
-    *b"descendant~~~~~~~~~~",
-    *b"ancestor~~~~~~~~~~~~",
-    *b"following~~~~~~~~~~~",
-    *b"preceding~~~~~~~~~~~",
-    *b"following-sibling~~~",
-    *b"preceding-sibling~~~",
-    *b"descendant-or-self~~",
-    *b"ancestor-or-self~~~~",
-    *b"::~~~~~~~~~~~~~~~~~~",
-    *b"*~~~~~~~~~~~~~~~~~~~",
-    *b".~~~~~~~~~~~~~~~~~~~",
-    *b"..~~~~~~~~~~~~~~~~~~",
-    *b"$~~~~~~~~~~~~~~~~~~~",
-    *b"0~~~~~~~~~~~~~~~~~~~",
-    *b"1~~~~~~~~~~~~~~~~~~~",
-    *b"2~~~~~~~~~~~~~~~~~~~",
-    *b"(~~~~~~~~~~~~~~~~~~~",
-    *b")~~~~~~~~~~~~~~~~~~~",
-    *b"[~~~~~~~~~~~~~~~~~~~",
-    *b"]~~~~~~~~~~~~~~~~~~~",
-    *b"/~~~~~~~~~~~~~~~~~~~",
-    *b"//~~~~~~~~~~~~~~~~~~",
-    *b" union ~~~~~~~~~~~~~",
-    *b" intersect ~~~~~~~~~",
-    *b" except ~~~~~~~~~~~~",
-    *b" or ~~~~~~~~~~~~~~~~",
-    *b" and ~~~~~~~~~~~~~~~",
-    *b"not(~~~~~~~~~~~~~~~~",
-    *b". is $~~~~~~~~~~~~~~",
-    *b"node()~~~~~~~~~~~~~~",
-    *b" same ~~~~~~~~~~~~~~",
-    *b")*~~~~~~~~~~~~~~~~~~",
+// The words, by number.
+pub const WORDS: [(Symbol, &[u8]); COUNT] = [
+    (Symbol::Itself, b"self"),
+    (Symbol::Child, b"child"),
+    (Symbol::Parent, b"parent"),
+    (Symbol::Right, b"right"),
+    (Symbol::Left, b"left"),
+    (Symbol::Descendant, b"descendant"),
+    (Symbol::Ancestor, b"ancestor"),
+    (Symbol::Following, b"following"),
+    (Symbol::Preceding, b"preceding"),
+    (Symbol::FollowingSibling, b"following-sibling"),
+    (Symbol::PrecedingSibling, b"preceding-sibling"),
+    (Symbol::DescendantOrSelf, b"descendant-or-self"),
+    (Symbol::AncestorOrSelf, b"ancestor-or-self"),
+    (Symbol::DoubleColon, b"::"),
+    (Symbol::Star, b"*"),
+    (Symbol::Dot, b"."),
+    (Symbol::Dots, b".."),
+    (Symbol::Dollar, b"$"),
+    (Symbol::Zero, b"0"),
+    (Symbol::One, b"1"),
+    (Symbol::Two, b"2"),
+    (Symbol::Open, b"("),
+    (Symbol::Close, b")"),
+    (Symbol::OpenFilter, b"["),
+    (Symbol::CloseFilter, b"]"),
+    (Symbol::SlashOne, b"/"),
+    (Symbol::SlashTwo, b"//"),
+    (Symbol::WordUnion, b" union "),
+    (Symbol::WordIntersect, b" intersect "),
+    (Symbol::WordExcept, b" except "),
+    (Symbol::WordOr, b" or "),
+    (Symbol::WordAnd, b" and "),
+    (Symbol::OpenNot, b"not("),
+    (Symbol::WordIs, b". is $"),
+    (Symbol::AnyNode, b"node()"),
+    (Symbol::WordSame, b" same "),
+    (Symbol::CloseStar, b")*"),
 ];
 
-// The bytes of a word, and END behind them.
-fn row(word: usize) -> [u8; 20] {
-    if word < COUNT {
-        return WORDS[word];
+// The word of a number; the last past the end.
+pub fn word(number: usize) -> Symbol {
+    match WORDS.get(number) {
+        Some((word, _)) => *word,
+        None => Symbol::CloseStar,
     }
-    [END; 20]
+}
+
+// The bytes of a word; what is no word has none.
+pub fn spelling(word: Symbol) -> &'static [u8] {
+    match WORDS.get(word as usize) {
+        Some((_, bytes)) => bytes,
+        None => b"",
+    }
 }
 
 // How many bytes of a word there are from a place of a text on.
-pub fn common(text: &[u8], place: usize, word: usize) -> usize {
-    let w = row(word);
-    let mut k = 0;
-    while k < 20 {
-        let due = w[k];
-        let got = table::byte_at(text, std::num::wrapping_add_usize(place, k));
-        if (due == END) | (got != due) {
-            return k;
-        }
-        k += 1;
-    }
-    k
+pub fn common(text: &[u8], place: usize, word: &[u8]) -> usize {
+    word.iter()
+        .enumerate()
+        .position(|(k, due)| table::at(text, place.wrapping_add(k)) != *due)
+        .unwrap_or(word.len())
 }
 
-pub fn length(word: usize) -> usize {
-    let w = row(word);
-    let mut k = 0;
-    while k < 20 {
-        if w[k] == END {
-            return k;
-        }
-        k += 1;
-    }
-    k
-}
-
-// Writes a byte, where the buffer has the place.
-pub fn put_byte(to: &mut Bytes, place: usize, byte: u8) {
-    if place < 2048 {
-        to[place] = byte;
-    }
-}
-
-// Writes a word to a place of a buffer.
-pub fn put(word: usize, to: &mut Bytes, place: usize) {
-    let w = row(word);
-    let mut k = 0;
-    while k < 20 {
-        let b = w[k];
-        if b == END {
-            return;
-        }
-        put_byte(to, std::num::wrapping_add_usize(place, k), b);
-        k += 1;
-    }
+// A word stands at a place of a text.
+pub fn stands(text: &[u8], place: usize, word: &[u8]) -> bool {
+    common(text, place, word) == word.len()
 }

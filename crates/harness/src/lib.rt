@@ -1,9 +1,10 @@
-// What the test program stands on: tables and buffers that take any index, the lines of its input that fill them, and the
+// What the test programs stand on: tables and buffers that take any index, the lines of their input that fill them, and the
 // tally of what was compared.
 #![tactic(auto)]
 
 pub mod chains;
 pub mod line;
 pub mod shared;
+pub mod sums;
 pub mod table;
 pub mod tally;

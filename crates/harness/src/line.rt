@@ -1,193 +1,140 @@
 // A line of the input: decimal numbers, parted by anything else, in parts that `|` ends; `#` starts a comment.
 use super::table;
 
-// A line as it is read: how many numbers there are up to the end of each part, 8 parts at most, and then the numbers.
-pub type Line = [usize; 1032];
+// How many parts, and how many numbers, a line may have.
+const PARTS: usize = 8;
+
+const NUMBERS: usize = 1024;
+
+// A line as it is read: how many numbers there are up to the end of each part, and then the numbers.
+#[derive(Clone, Copy)]
+pub struct Line {
+    ends: [usize; PARTS],
+    numbers: [usize; NUMBERS],
+}
 
 // How much of a line has been read: how many numbers are whole, in which part they stand, and the number that is open.
-#[derive(Drop)]
+#[derive(Clone, Copy)]
 struct Reading {
     count: usize,
     part: usize,
-    open: bool,
-    value: usize,
-    ended: bool,
+    open: Option<usize>,
 }
 
-fn put_end(line: &mut Line, part: usize, count: usize) {
-    if part < 8 {
-        line[part] = count;
-    }
-}
-
-fn put_number(line: &mut Line, k: usize, value: usize) {
-    if k < 1024 {
-        line[8 + k] = value;
-    }
-}
-
-fn end_of(line: &Line, part: usize) -> usize {
-    if part < 8 {
-        return line[part];
-    }
-    0
-}
-
-fn start_of(line: &Line, part: usize) -> usize {
-    if part == 0 {
-        return 0;
-    }
-    end_of(line, part - 1)
-}
-
-fn number_at(line: &Line, k: usize) -> usize {
-    if k < 1024 {
-        return line[8 + k];
-    }
-    0
-}
-
-// Number k of a part; 0 where the line has no such number.
-pub fn number(line: &Line, part: usize, k: usize) -> usize {
-    number_at(line, std::num::wrapping_add_usize(start_of(line, part), k))
-}
-
-// How many numbers a part has.
-pub fn length(line: &Line, part: usize) -> usize {
-    let start = start_of(line, part);
-    let end = end_of(line, part);
-    if end < start {
-        return 0;
-    }
-    end - start
-}
-
-fn is_digit(byte: u8) -> bool {
-    (b'0' <= byte) & (byte <= b'9')
+// No less than some of so many.
+#[derive(Clone, Copy)]
+pub struct Share {
+    pub some: usize,
+    pub of: usize,
 }
 
 // The number with one digit more; it stays as it is where it would have more than nine.
-fn shifted(value: usize, byte: u8) -> usize {
+fn shifted(value: usize, digit: u8) -> usize {
     if 99999999 < value {
         return value;
     }
-    if byte < b'0' {
-        return value;
-    }
-    let digit = byte - b'0';
-    value * 10 + digit as usize
+    value * 10 + usize::from(digit)
 }
 
-// A byte that is no digit ends the open number.
-fn closed(r: Reading, line: &mut Line) -> Reading {
-    if r.open {
-        put_number(line, r.count, r.value);
-        return Reading {
-            count: std::num::wrapping_add_usize(r.count, 1),
-            part: r.part,
-            open: false,
-            value: 0,
-            ended: false,
+impl Line {
+    // Reads a line.
+    pub fn read(text: &[u8]) -> Line {
+        let mut line = Line {
+            ends: [0; PARTS],
+            numbers: [0; NUMBERS],
         };
-    }
-    r
-}
-
-// A part ends, and the line too where asked.
-fn parted(r: Reading, line: &mut Line, ended: bool) -> Reading {
-    put_end(line, r.part, r.count);
-    Reading {
-        count: r.count,
-        part: std::num::wrapping_add_usize(r.part, 1),
-        open: false,
-        value: 0,
-        ended: ended,
-    }
-}
-
-// The reading one byte further.
-fn further(r: Reading, byte: u8, line: &mut Line) -> Reading {
-    if r.ended {
-        return r;
-    }
-    if is_digit(byte) {
-        return Reading {
-            count: r.count,
-            part: r.part,
-            open: true,
-            value: shifted(r.value, byte),
-            ended: false,
+        let mut reading = Reading {
+            count: 0,
+            part: 0,
+            open: None,
         };
+        for byte in text {
+            match *byte {
+                digit @ b'0'..=b'9' => {
+                    let value = reading.open.unwrap_or(0);
+                    reading.open = Some(shifted(value, digit - b'0'));
+                }
+                b'|' => line.part(&mut reading),
+                b'#' => break,
+                _ => line.close(&mut reading),
+            }
+        }
+        line.part(&mut reading);
+        line
     }
-    let c = closed(r, line);
-    if byte == b'|' {
-        return parted(c, line, false);
-    }
-    if (byte == b'#') | (byte == b'\n') {
-        return parted(c, line, true);
-    }
-    c
-}
 
-// Reads the line that starts at a place, and answers where the next one starts.
-pub fn read(text: &[u8], start: usize, line: &mut Line) -> usize {
-    let mut r = Reading {
-        count: 0,
-        part: 0,
-        open: false,
-        value: 0,
-        ended: false,
-    };
-    let mut i = start;
-    while i < text.len() {
-        let byte = text[i];
-        let next = further(r, byte, line);
-        r = next;
-        i += 1;
-        if byte == b'\n' {
-            return i;
+    // A byte that is no digit ends the open number.
+    fn close(&mut self, reading: &mut Reading) {
+        if let Some(value) = reading.open {
+            table::put(&mut self.numbers, reading.count, value);
+            reading.count = reading.count.wrapping_add(1);
+            reading.open = None;
         }
     }
-    i
-}
 
-// Makes a part a table.
-pub fn copy(line: &Line, part: usize, to: &mut table::Table) {
-    let count = length(line, part);
-    table::set_length(to, count);
-    let mut k = 0;
-    while k < count {
-        table::put(to, k, number(line, part, k));
-        k += 1;
+    // A part ends, and with it the open number.
+    fn part(&mut self, reading: &mut Reading) {
+        self.close(reading);
+        table::put(&mut self.ends, reading.part, reading.count);
+        reading.part = reading.part.wrapping_add(1);
     }
-}
 
-// Writes a part to the front of a buffer.
-pub fn copy_bytes(line: &Line, part: usize, to: &mut [u8]) {
-    let count = length(line, part);
-    let mut k = 0;
-    while k < count {
-        table::put_byte(to, k, number(line, part, k));
-        k += 1;
+    // The numbers of a part.
+    pub fn numbers(&self, part: usize) -> &[usize] {
+        let end = table::at(&self.ends, part).min(NUMBERS);
+        let before = if part == 0 {
+            0
+        } else {
+            table::at(&self.ends, part - 1)
+        };
+        let start = before.min(end);
+        &self.numbers[start..end]
     }
-}
 
-// Writes a part to the front of a buffer for rows.
-pub fn copy_rows(line: &Line, part: usize, rows: &mut table::Rows) {
-    let count = length(line, part);
-    let mut k = 0;
-    while k < count {
-        table::put_in_row(rows, k, number(line, part, k));
-        k += 1;
+    // How many numbers a part has.
+    pub fn length(&self, part: usize) -> usize {
+        self.numbers(part).len()
     }
-}
 
-// A part as a cursor: BEGUN FIRST SECOND THIRD.
-pub fn cursor(line: &Line, part: usize) -> model::Cursor {
-    model::Cursor {
-        begun: table::byte(number(line, part, 0)),
-        first: table::narrow(number(line, part, 1)),
-        second: table::narrow(number(line, part, 2)),
-        third: table::narrow(number(line, part, 3)),
+    // Number k of a part; 0 where the part has no such number.
+    pub fn number(&self, part: usize, k: usize) -> usize {
+        table::at(self.numbers(part), k)
+    }
+
+    // A part as SOME OF.
+    pub fn share(&self, part: usize) -> Share {
+        Share {
+            some: self.number(part, 0),
+            of: self.number(part, 1),
+        }
+    }
+
+    // A part as a table.
+    pub fn table(&self, part: usize) -> table::Table {
+        table::Table::from_list(self.numbers(part))
+    }
+
+    // Writes a part to the front of a buffer.
+    pub fn copy_bytes(&self, part: usize, to: &mut [u8]) {
+        for (place, x) in to.iter_mut().zip(self.numbers(part)) {
+            *place = table::byte(*x);
+        }
+    }
+
+    // Writes a part to the front of a buffer for numbers of tables.
+    pub fn copy_numbers(&self, part: usize, to: &mut [u16]) {
+        for (place, x) in to.iter_mut().zip(self.numbers(part)) {
+            *place = table::narrow(*x);
+        }
+    }
+
+    // A part as a cursor: BEGUN FIRST SECOND THIRD.
+    pub fn cursor(&self, part: usize) -> model::Cursor {
+        model::Cursor {
+            begun: table::byte(self.number(part, 0)),
+            first: table::narrow(self.number(part, 1)),
+            second: table::narrow(self.number(part, 2)),
+            third: table::narrow(self.number(part, 3)),
+        }
     }
 }

@@ -1,7 +1,4 @@
-// Tables and buffers that take any index: a number is read as 0 past the end, and not written there.
-
-// How many numbers there are, and the numbers, at most 1024.
-pub type Table = [u16; 1025];
+// Tables and buffers that take any index: an item is read as 0 past the end, and not written there.
 
 // Room for a set of nodes, and more.
 pub type Set = [u8; 512];
@@ -15,136 +12,107 @@ pub type Rows = [u16; 1024];
 // Room for the pairs of 256 nodes as bits, and more.
 pub type Words = [u64; 1040];
 
-fn put_at(table: &mut Table, at: usize, value: usize) {
-    if at < 1025 {
-        if value < 65536 {
-            table[at] = value as u16;
-        }
+// Item k of a list; 0 past the end.
+pub fn at<T: Copy + Default>(items: &[T], k: usize) -> T {
+    if k < items.len() {
+        items[k]
+    } else {
+        T::default()
     }
 }
 
-// Writes number k of a table.
-pub fn put(table: &mut Table, k: usize, value: usize) {
-    put_at(table, std::num::wrapping_add_usize(k, 1), value);
-}
-
-// Writes a number behind the others.
-pub fn append(table: &mut Table, value: usize) {
-    let at = length(table);
-    put(table, at, value);
-    set_length(table, std::num::wrapping_add_usize(at, 1));
-}
-
-pub fn set_length(table: &mut Table, length: usize) {
-    put_at(table, 0, length);
-}
-
-// The numbers of a table.
-pub fn numbers(table: &[u16]) -> &[u16] {
-    if table.len() == 0 {
-        return table;
-    }
-    let end = model::wide(table[0]) + 1;
-    if table.len() < end {
-        return table;
-    }
-    &table[1..end]
-}
-
-// Number k of those that numbers gives.
-pub fn at(numbers: &[u16], k: usize) -> usize {
-    if k < numbers.len() {
-        return model::wide(numbers[k]);
-    }
-    0
-}
-
-pub fn put_byte(bytes: &mut [u8], at: usize, value: usize) {
-    if at < bytes.len() {
-        if value < 256 {
-            bytes[at] = value as u8;
-        }
+// Writes item k of a list, where it has one.
+pub fn put<T: Copy>(items: &mut [T], k: usize, value: T) {
+    if k < items.len() {
+        items[k] = value;
     }
 }
 
-pub fn byte_at(bytes: &[u8], at: usize) -> u8 {
-    if at < bytes.len() {
-        return bytes[at];
-    }
-    0
-}
-
-pub fn put_word(words: &mut [u64], at: usize, value: u64) {
-    if at < words.len() {
-        words[at] = value;
-    }
-}
-
-pub fn word_at(words: &[u64], at: usize) -> u64 {
-    if at < words.len() {
-        return words[at];
-    }
-    0
+// The first items of a list, as many as it has.
+pub fn front<T>(items: &[T], length: usize) -> &[T] {
+    let end = length.min(items.len());
+    &items[..end]
 }
 
 // A number as a byte; 0 where it is none.
 pub fn byte(x: usize) -> u8 {
-    if x < 256 {
-        return x as u8;
-    }
-    0
+    u8::try_from(x).unwrap_or(0)
 }
 
 // A number as one of a table; 0 where it is none.
 pub fn narrow(x: usize) -> u16 {
-    if x < 65536 {
-        return x as u16;
-    }
-    0
+    u16::try_from(x).unwrap_or(0)
 }
 
-pub fn put_in_row(rows: &mut Rows, at: usize, value: usize) {
-    if at < 1024 {
-        rows[at] = narrow(value);
-    }
+// Up to N numbers.
+#[derive(Clone, Copy)]
+pub struct Numbers<const N: usize> {
+    length: usize,
+    numbers: [u16; N],
 }
 
-// Writes numbers to the front of a buffer for rows.
-pub fn copy_rows(numbers: &[u16], rows: &mut Rows) {
-    let mut k = 0;
-    while k < numbers.len() {
-        put_in_row(rows, k, at(numbers, k));
-        k += 1;
-    }
-}
+// A tree of two numbers a node, a query of four an entry, or the nodes of an assignment.
+pub type Table = Numbers<1024>;
 
-// How many numbers a table has.
-pub fn length(table: &Table) -> usize {
-    let all = numbers(table);
-    all.len()
-}
-
-// The number of nodes of a tree.
-pub fn size(tree: &Table) -> usize {
-    length(tree) / 2
-}
-
-// The last entry of a query.
-pub fn last(query: &Table) -> usize {
-    let entries = length(query) / 4;
-    if entries == 0 {
-        return 0;
+impl<const N: usize> Numbers<N> {
+    // No number, and room for all.
+    pub fn new() -> Self {
+        Numbers {
+            length: 0,
+            numbers: [0; N],
+        }
     }
-    entries - 1
-}
 
-// a × b, or 0 where one of them has more than 32 bits.
-pub fn times(a: usize, b: usize) -> usize {
-    if 4294967295 < a {
-        return 0;
+    // So many numbers that are 0 until they are written.
+    pub fn with_length(length: usize) -> Self {
+        Numbers {
+            length: length,
+            numbers: [0; N],
+        }
     }
-    if 4294967295 < b {
-        return 0;
+
+    // The numbers of a list, as many as there is room for; what is no number of a table is 0.
+    pub fn from_list(list: &[usize]) -> Self {
+        let mut table = Self::with_length(list.len());
+        for (place, x) in table.numbers.iter_mut().zip(list) {
+            *place = narrow(*x);
+        }
+        table
     }
-    a * b
+
+    // How many numbers there are.
+    pub fn length(&self) -> usize {
+        self.length.min(N)
+    }
+
+    pub fn set_length(&mut self, length: usize) {
+        self.length = length;
+    }
+
+    pub fn numbers(&self) -> &[u16] {
+        front(&self.numbers, self.length)
+    }
+
+    // Number k; 0 past the end.
+    pub fn at(&self, k: usize) -> usize {
+        if (k < self.length) & (k < N) {
+            usize::from(self.numbers[k])
+        } else {
+            0
+        }
+    }
+
+    // Writes number k, unless it has more than 16 bits.
+    pub fn put(&mut self, k: usize, value: usize) {
+        if let Ok(number) = u16::try_from(value) {
+            put(&mut self.numbers, k, number);
+        }
+    }
+
+    // Writes a number behind the others.
+    pub fn push(&mut self, value: usize) {
+        let end = self.length();
+        self.put(end, value);
+        self.length = end.wrapping_add(1);
+    }
 }

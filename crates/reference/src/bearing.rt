@@ -1,94 +1,72 @@
 // Whether a part of a query decides what it comes to: with something else in its place the query has another number of pairs.
-use super::{evaluator, random};
-use harness::{table, tally};
+use super::evaluator::{Asked, Pairs, fill, outcome};
+use super::query::{ANY_NODE, Entry, Query, STAR};
+use harness::tally::{Sum, Tally};
+use model::Kind;
 
 // The parts: the star, in whose place `node()` is put; a closure, which then takes its path once at most; and `same`, for which then
 // stands that its left path leads somewhere.
-const STAR: usize = 0;
-
-pub const CLOSURE: usize = 1;
-
-const SAME: usize = 2;
-
-// An entry is such a part.
-fn is_part(f: model::Entry, part: usize) -> bool {
-    if part == STAR {
-        return (f.kind == 0) & (f.tag == evaluator::STAR);
-    }
-    if part == CLOSURE {
-        return f.kind == evaluator::CLOSURE;
-    }
-    f.kind == evaluator::SAME
+#[derive(Clone, Copy)]
+pub enum Part {
+    Star,
+    Closure,
+    Same,
 }
 
-// What is put in its place.
-fn other(f: model::Entry, part: usize) -> model::Entry {
-    if part == STAR {
-        return random::entry(0, f.left, 0, evaluator::ANY_NODE);
+// What is put in the place of an entry that is such a part.
+fn other(f: Entry, part: Part) -> Option<Entry> {
+    match (part, f.kind) {
+        (Part::Star, Kind::Step) => {
+            if f.tag != STAR {
+                return None;
+            }
+            Some(Entry { tag: ANY_NODE, ..f })
+        }
+        (Part::Closure, Kind::Star) => Some(Entry { right: 1, ..f }),
+        (Part::Same, Kind::Same) => Some(Entry::over(Kind::Exists, f.left)),
+        _ => None,
     }
-    if part == CLOSURE {
-        return random::entry(evaluator::CLOSURE, f.left, 1, 0);
-    }
-    random::entry(8, f.left, 0, 0)
 }
 
-fn replaced(f: model::Entry, part: usize) -> model::Entry {
-    if is_part(f, part) {
-        return other(f, part);
-    }
-    f
-}
-
-// Makes the query that has something else in place of each such part, and answers whether there is any.
-fn replace(query: &[u16], part: usize, to: &mut table::Table) -> bool {
-    let entries = query.len() / 4;
+// The query that has something else in place of each such part, if there is any.
+fn replaced(query: &Query, part: Part) -> Option<Query> {
+    let mut changed = Query::new();
     let mut any = false;
-    let mut e = 0;
-    while e < entries {
-        let f = evaluator::entry_of(query, e);
-        any = any | is_part(f, part);
-        random::append(to, replaced(f, part));
-        e += 1;
+    for e in 0..query.entries() {
+        let f = query.entry(e);
+        match other(f, part) {
+            Some(new) => {
+                any = true;
+                changed.push(new);
+            }
+            None => changed.push(f),
+        }
     }
-    any
+    if any { Some(changed) } else { None }
 }
 
-// The query has so many pairs under an assignment, and another number with something else in place of each such part.
-pub fn decides(
-    pairs: &mut evaluator::Pairs,
-    tree: &table::Table,
-    query: &table::Table,
-    nodes: &table::Table,
-    found: usize,
-    part: usize,
-) -> bool {
+// The query has so many pairs, and another number with something else in place of each such part.
+pub fn decides(pairs: &mut Pairs, asked: &Asked, found: usize, part: Part) -> bool {
     let mut cells = [0u8; 66560];
-    let mut changed = [0u16; 1025];
-    if !replace(table::numbers(query), part, &mut changed) {
+    let Some(changed) = replaced(asked.query, part) else {
         return false;
-    }
-    evaluator::fill(pairs, tree, &changed, nodes);
-    evaluator::all_pairs(pairs, table::last(query), table::size(tree), &mut cells) != found
+    };
+    let asked_else = Asked {
+        tree: asked.tree,
+        query: &changed,
+        nodes: asked.nodes,
+    };
+    fill(pairs, &asked_else);
+    outcome(pairs, &asked_else, false).all_pairs(&mut cells) != found
 }
 
-// Counts what decides in a query, which has so many pairs under an assignment: its closures, its `same`, and over a tree with a document
-// node its star, which leaves that out.
-pub fn count(
-    tally: &mut tally::Tally,
-    pairs: &mut evaluator::Pairs,
-    tree: &table::Table,
-    query: &table::Table,
-    nodes: &table::Table,
-    found: usize,
-) {
-    let closing = decides(pairs, tree, query, nodes, found, CLOSURE);
-    tally::add(tally, tally::CLOSING, closing as u64);
-    let meeting = decides(pairs, tree, query, nodes, found, SAME);
-    tally::add(tally, tally::MEETING, meeting as u64);
-    if !evaluator::has_document(tree) {
-        return;
+// Counts what decides in a query, which has so many pairs: its closures, its `same`, and over a tree with a document node its star,
+// which leaves that out.
+pub fn count(tally: &mut Tally, pairs: &mut Pairs, asked: &Asked, found: usize) {
+    tally.count(Sum::Closing, decides(pairs, asked, found, Part::Closure));
+    tally.count(Sum::Meeting, decides(pairs, asked, found, Part::Same));
+    if asked.tree.has_document() {
+        tally.add(Sum::Documents, 1);
+        tally.count(Sum::LeftOut, decides(pairs, asked, found, Part::Star));
     }
-    tally::add(tally, tally::DOCUMENTS, 1);
-    let left_out = decides(pairs, tree, query, nodes, found, STAR);
-    tally::add(tally, tally::LEFT_OUT, left_out as u64);
 }

@@ -1,143 +1,113 @@
 // Random tables of bytes, and faults in what the two conversions and the pairs in bits are lent.
-use super::{bit_tables, damage, random};
-use harness::{shared, table};
+use super::query::Query;
+use super::random::Seed;
+use super::{bit_tables, damage};
+use harness::shared::Shared;
+use harness::table::{Cells, Table, Words, byte, narrow, put as put_at};
+use model::Refusal;
 
 // So many bytes, each 0 or 1: few ones, half of them, or nothing but ones.
-pub fn make_cells(seed: &mut u64, cells: &mut table::Cells, count: usize) {
-    let share = random::between(seed, 1, 6);
-    let mut i = 0;
-    while i < count {
-        let one = random::below(seed, share) == 0;
-        table::put_byte(cells, i, one as usize);
-        i += 1;
+pub fn make_cells(seed: &mut Seed, cells: &mut Cells, count: usize) {
+    let share = seed.between(1, 6);
+    for i in 0..count {
+        put_at(cells, i, u8::from(seed.one_in(share)));
     }
 }
 
 // Mostly n; else none, one too many, any number up to 65536, or one whose square has more than 64 bits.
-pub fn maybe_size(seed: &mut u64, n: usize) -> usize {
-    let form = random::below(seed, 12);
-    if form == 0 {
-        return 0;
+pub fn maybe_size(seed: &mut Seed, n: usize) -> usize {
+    match seed.below(12) {
+        0 => 0,
+        1 => 257,
+        2 => seed.between(1, 65536),
+        3 => seed.between(4294967296, 8589934592),
+        _ => n,
     }
-    if form == 1 {
-        return 257;
-    }
-    if form == 2 {
-        return random::between(seed, 1, 65536);
-    }
-    if form == 3 {
-        return random::between(seed, 4294967296, 8589934592);
-    }
-    n
 }
 
 // Mostly as long as is needed; else one less or more, nothing, or any length up to the most.
-pub fn maybe_length(seed: &mut u64, length: usize, most: usize) -> usize {
-    let form = random::below(seed, 12);
-    if form == 0 {
-        return std::num::wrapping_sub_usize(length, 1);
+pub fn maybe_length(seed: &mut Seed, length: usize, most: usize) -> usize {
+    match seed.below(12) {
+        0 => length.wrapping_sub(1),
+        1 => length.wrapping_add(1),
+        2 => 0,
+        3 => seed.between(0, most),
+        _ => length,
     }
-    if form == 1 {
-        return std::num::wrapping_add_usize(length, 1);
-    }
-    if form == 2 {
-        return 0;
-    }
-    if form == 3 {
-        return random::between(seed, 0, most);
-    }
-    length
 }
 
 // Every third time, one of so many bytes is above 1.
-pub fn maybe_high(seed: &mut u64, cells: &mut table::Cells, count: usize) {
-    if random::below(seed, 3) == 0 {
-        let at = random::below(seed, count);
-        let value = random::between(seed, 2, 255);
-        table::put_byte(cells, at, value);
+pub fn maybe_high(seed: &mut Seed, cells: &mut Cells, count: usize) {
+    if seed.one_in(3) {
+        let at = seed.below(count);
+        put_at(cells, at, byte(seed.between(2, 255)));
     }
 }
 
 // Every third time, a bit of any of n rows at or beyond n is set: the first, the last, or any. Among 256 nodes there is none.
-pub fn maybe_stray(seed: &mut u64, words: &mut table::Words, n: usize) {
-    let x = random::below(seed, n);
-    let any = random::between(seed, n, 255);
-    let form = random::below(seed, 12);
-    if (255 < n) | (3 < form) {
-        return;
+pub fn maybe_stray(seed: &mut Seed, words: &mut Words, n: usize) {
+    let x = seed.below(n);
+    let any = seed.between(n, 255);
+    let form = seed.below(12);
+    if n < 256 {
+        match form {
+            0 => bit_tables::set(words, x, n),
+            1 => bit_tables::set(words, x, 255),
+            2 | 3 => bit_tables::set(words, x, any),
+            _ => (),
+        }
     }
-    if form == 0 {
-        bit_tables::set(words, x, n);
-        return;
-    }
-    if form == 1 {
-        bit_tables::set(words, x, 255);
-        return;
-    }
-    bit_tables::set(words, x, any);
 }
 
-// What a refused call for pairs is lent beside the tables, and the reply that is due.
-#[derive(Drop)]
+// What a refused call for pairs is lent beside the tables, and the refusal that is due.
+#[derive(Clone, Copy)]
 pub struct Fault {
     pub columns: usize,
     pub room: usize,
-    pub reply: model::Reply,
+    pub refusal: Refusal,
 }
 
 // A fault in the assigned nodes: another number of them than of variables or, where there are variables, one that is no node.
-fn in_nodes(seed: &mut u64, nodes: &mut table::Table, n: usize) -> model::Reply {
-    let columns = table::length(nodes);
-    if (columns == 0) | (random::below(seed, 2) == 0) {
-        let more = random::between(seed, 1, 3);
-        table::set_length(nodes, std::num::wrapping_add_usize(columns, more) % 4);
-        return damage::reply(16, 0);
+fn in_nodes(seed: &mut Seed, nodes: &mut Table, n: usize) -> Refusal {
+    let columns = nodes.length();
+    let in_count = seed.one_in(2);
+    if (columns == 0) | in_count {
+        let more = seed.between(1, 3);
+        nodes.set_length(columns.wrapping_add(more) % 4);
+        return Refusal::NodeCount;
     }
-    let k = random::below(seed, columns);
-    table::put(nodes, k, random::between(seed, n, 65535));
-    damage::reply(17, k)
-}
-
-// A fault in a table, or in the assigned nodes, or none but that there is no room.
-fn in_part(
-    seed: &mut u64,
-    shared: &mut shared::Shared,
-    query: &mut table::Table,
-    nodes: &mut table::Table,
-    n: usize,
-    which: usize,
-) -> model::Reply {
-    if which < 2 {
-        return damage::in_table(seed, shared, query, which);
-    }
-    if which == 2 {
-        return in_nodes(seed, nodes, n);
-    }
-    damage::reply(20, 0)
+    let k = seed.below(columns);
+    nodes.put(k, seed.between(n, 65535));
+    Refusal::NoNode(narrow(k))
 }
 
 // Puts any fault into what a call for pairs in bits would be lent, for a party that sees n nodes. There is never enough room, since any
 // other fault is told first.
 pub fn put(
-    seed: &mut u64,
-    shared: &mut shared::Shared,
-    query: &mut table::Table,
-    nodes: &mut table::Table,
+    seed: &mut Seed,
+    shared: &mut Shared,
+    query: &mut Query,
+    nodes: &mut Table,
     n: usize,
 ) -> Fault {
-    let columns = table::length(nodes);
-    let room = random::below(seed, table::times(4, n));
-    let which = random::below(seed, 5);
+    let columns = nodes.length();
+    let room = seed.below(n.wrapping_mul(4));
+    let which = seed.below(5);
     if which == 4 {
         return Fault {
-            columns: random::between(seed, 4, 65536),
-            room: room,
-            reply: damage::reply(9, 0),
+            columns: seed.between(4, 65536),
+            room,
+            refusal: Refusal::VariableCount,
         };
     }
+    let refusal = match which {
+        0 | 1 => damage::in_table(seed, shared, query, which),
+        2 => in_nodes(seed, nodes, n),
+        _ => Refusal::Room,
+    };
     Fault {
-        columns: columns,
-        room: room,
-        reply: in_part(seed, shared, query, nodes, n, which),
+        columns,
+        room,
+        refusal,
     }
 }

@@ -1,392 +1,327 @@
 // Trees, queries, assignments and node sets from a seed. Each is accepted by the way it is made.
-use super::evaluator;
-use harness::{line, table};
+use super::query::{ANY_NODE, Entry, Query, STAR, Sort, left_of, right_of, sort_of};
+use super::tree::{DOCUMENT, Tree};
+use harness::line::Line;
+use harness::table;
+use model::{Axis, Kind};
 
-// The next number of the seed (xorshift).
-fn next(seed: &mut u64) -> u64 {
-    let a = *seed ^ (*seed << 13);
-    let b = a ^ (a >> 7);
-    let c = b ^ (b << 17);
-    *seed = c;
-    c
+#[derive(Clone, Copy)]
+pub struct Seed {
+    state: u64,
 }
 
-// A number below n; 0 where there is none.
-pub fn below(seed: &mut u64, n: usize) -> usize {
-    if n == 0 {
-        return 0;
+impl Seed {
+    pub fn new(state: usize) -> Seed {
+        Seed {
+            state: state as u64,
+        }
     }
-    let r = next(seed);
-    let high = (r >> 32) as usize;
-    high % n
-}
 
-// A number from least to most.
-pub fn between(seed: &mut u64, least: usize, most: usize) -> usize {
-    if most < least {
-        return least;
+    // The next number of the seed (xorshift).
+    fn next(&mut self) -> u64 {
+        let a = self.state ^ (self.state << 13);
+        let b = a ^ (a >> 7);
+        self.state = b ^ (b << 17);
+        self.state
     }
-    std::num::wrapping_add_usize(
-        least,
-        below(seed, std::num::wrapping_add_usize(most - least, 1)),
-    )
-}
 
-// The node that so many steps up from x lead to, or the root.
-pub fn climbed(tree: &table::Table, x: usize, steps: usize) -> usize {
-    let mut z = x;
-    let mut i = 0;
-    while i < steps {
-        if z == 0 {
+    // A number below n; 0 where there is none.
+    pub fn below(&mut self, n: usize) -> usize {
+        if n == 0 {
             return 0;
         }
-        z = table::at(table::numbers(tree), std::num::wrapping_add_usize(z, z));
-        i += 1;
+        let high = (self.next() >> 32) as usize;
+        high % n
     }
-    z
+
+    // A number from least to most.
+    pub fn between(&mut self, least: usize, most: usize) -> usize {
+        if most < least {
+            return least;
+        }
+        let more = self.below((most - least).wrapping_add(1));
+        least.wrapping_add(more)
+    }
+
+    // Numbers that a part of a line bounds, LEAST MOST, from its number k on.
+    pub fn within(&mut self, line: &Line, part: usize, k: usize) -> usize {
+        self.between(line.number(part, k), line.number(part, k.wrapping_add(1)))
+    }
+
+    // Of so many times once.
+    pub fn one_in(&mut self, n: usize) -> bool {
+        self.below(n) == 0
+    }
+
+    // Any axis.
+    pub fn axis(&mut self) -> Axis {
+        Axis::from_number(self.below(13)).unwrap_or(Axis::Itself)
+    }
+
+    // Child, parent, right or left.
+    pub fn near_axis(&mut self) -> Axis {
+        Axis::from_number(self.between(1, 4)).unwrap_or(Axis::Itself)
+    }
+
+    // Two operands in either order.
+    pub fn either_way(&mut self, kind: Kind, a: usize, b: usize) -> Entry {
+        if self.one_in(2) {
+            return Entry::joining(kind, a, b);
+        }
+        Entry::joining(kind, b, a)
+    }
 }
 
 // One of a few tags, or of all but the reserved ones the highest.
-pub fn tag(seed: &mut u64) -> usize {
-    let t = below(seed, 12);
-    if t == 11 {
-        return 65533;
+pub fn tag(seed: &mut Seed) -> usize {
+    match seed.below(12) {
+        11 => 65533,
+        t => t % 3,
     }
-    t % 3
 }
 
-// Node x hangs from the node before it or, at most so many steps up, from an ancestor of that node.
-fn put_node(seed: &mut u64, tree: &mut table::Table, x: usize, steps: usize) {
-    let mut parent = 65535;
-    if 0 < x {
-        parent = climbed(tree, x - 1, below(seed, steps));
+// A tree of n nodes. Each hangs from the node before it or, at most so many steps up, from an ancestor of that node.
+pub fn make_tree(seed: &mut Seed, n: usize) -> Tree {
+    let mut tree = Tree::new();
+    let steps = seed.between(1, 6);
+    for x in 0..n {
+        let parent = if x == 0 {
+            65535
+        } else {
+            tree.climbed(x - 1, seed.below(steps))
+        };
+        tree.push(parent, tag(seed));
     }
-    let at = std::num::wrapping_add_usize(x, x);
-    table::put(tree, at, parent);
-    table::put(tree, std::num::wrapping_add_usize(at, 1), tag(seed));
-}
-
-// A tree of n nodes.
-pub fn make_tree(seed: &mut u64, tree: &mut table::Table, n: usize) {
-    table::set_length(tree, std::num::wrapping_add_usize(n, n));
-    let steps = between(seed, 1, 6);
-    let mut x = 0;
-    while x < n {
-        put_node(seed, tree, x, steps);
-        x += 1;
-    }
+    tree
 }
 
 // In one tree of four, node 0 becomes a document node.
-pub fn maybe_document(seed: &mut u64, tree: &mut table::Table) {
-    if below(seed, 4) == 0 {
-        table::put(tree, 1, evaluator::DOCUMENT);
+pub fn maybe_document(seed: &mut Seed, tree: &mut Tree) {
+    if seed.one_in(4) {
+        tree.set_tag(0, DOCUMENT);
     }
 }
 
 // A node below n for each variable, of which there are at most three.
-pub fn make_nodes(seed: &mut u64, nodes: &mut table::Table, columns: usize, n: usize) {
-    table::set_length(nodes, columns);
-    table::put(nodes, 0, below(seed, n));
-    table::put(nodes, 1, below(seed, n));
-    table::put(nodes, 2, below(seed, n));
-}
-
-fn put_member(seed: &mut u64, set: &mut table::Set, x: usize, share: usize) {
-    let chosen = below(seed, share) == 0;
-    table::put_byte(set, x, chosen as usize);
+pub fn make_nodes(seed: &mut Seed, columns: usize, n: usize) -> table::Table {
+    let mut nodes = table::Table::with_length(columns);
+    for k in 0..3 {
+        nodes.put(k, seed.below(n));
+    }
+    nodes
 }
 
 // A set of nodes below n: few, half or all of them.
-pub fn make_set(seed: &mut u64, set: &mut table::Set, n: usize) {
-    let share = between(seed, 1, 6);
-    let mut x = 0;
-    while x < n {
-        put_member(seed, set, x, share);
-        x += 1;
+pub fn make_set(seed: &mut Seed, set: &mut table::Set, n: usize) {
+    let share = seed.between(1, 6);
+    for x in 0..n {
+        table::put(set, x, u8::from(seed.one_in(share)));
     }
 }
 
-// The four numbers of an entry.
-pub fn entry(kind: usize, left: usize, right: usize, tag: usize) -> model::Entry {
-    model::Entry {
-        kind: kind,
-        left: left,
-        right: right,
-        tag: tag,
-    }
+// What each entry is free for as an operand; nothing where it is one already.
+#[derive(Drop)]
+struct Free {
+    sorts: [Option<Sort>; 64],
 }
 
-// Writes an entry behind the others of a query, of which there are at most 64.
-pub fn append(query: &mut table::Table, f: model::Entry) {
-    let at = table::length(query);
-    if at < 256 {
-        table::put(query, at, f.kind);
-        table::put(query, at + 1, f.left);
-        table::put(query, at + 2, f.right);
-        table::put(query, at + 3, f.tag);
-        table::set_length(query, at + 4);
+impl Free {
+    fn mark(&mut self, e: usize, sort: Option<Sort>) {
+        table::put(&mut self.sorts, e, sort);
     }
-}
 
-// What an entry can be as an operand: nothing, since it is one already; a path; a node expression.
-const TAKEN: u8 = 0;
-
-const PATH: u8 = 1;
-
-const EXPR: u8 = 2;
-
-// What each kind is, and has for its left and its right operand.
-const RESULT: [u8; 15] = [1, 1, 1, 1, 1, 1, 1, 1, 2, 2, 2, 2, 2, 1, 2];
-
-const LEFT: [u8; 15] = [0, 1, 1, 1, 1, 1, 0, 1, 1, 2, 2, 2, 0, 1, 1];
-
-const RIGHT: [u8; 15] = [0, 1, 1, 1, 1, 2, 0, 0, 0, 0, 2, 2, 0, 0, 1];
-
-fn result(kind: usize) -> u8 {
-    if kind < 15 {
-        return RESULT[kind];
+    // How many entries are free for an operand of this sort.
+    fn count(&self, sort: Sort) -> usize {
+        self.sorts.iter().filter(|s| **s == Some(sort)).count()
     }
-    0
-}
 
-pub fn left(kind: usize) -> u8 {
-    if kind < 15 {
-        return LEFT[kind];
-    }
-    0
-}
-
-pub fn right(kind: usize) -> u8 {
-    if kind < 15 {
-        return RIGHT[kind];
-    }
-    0
-}
-
-fn mark(free: &mut [u8; 64], e: usize, sort: u8) {
-    if e < 64 {
-        free[e] = sort;
-    }
-}
-
-fn is_free(free: &[u8; 64], e: usize, sort: u8) -> bool {
-    if e < 64 {
-        return free[e] == sort;
-    }
-    false
-}
-
-// How many entries are free for an operand of this sort.
-fn count(free: &[u8; 64], sort: u8) -> usize {
-    let mut found = 0;
-    let mut e = 0;
-    while e < 64 {
-        let more = is_free(free, e, sort) as usize;
-        found = std::num::wrapping_add_usize(found, more);
-        e += 1;
-    }
-    found
-}
-
-// The first entry from a place on, and round to it again, that is free for an operand of this sort; 64 if none is.
-fn find(free: &[u8; 64], sort: u8, start: usize) -> usize {
-    let mut i = 0;
-    while i < 64 {
-        let e = std::num::wrapping_add_usize(start, i) % 64;
-        if is_free(free, e, sort) {
-            return e;
+    // The first entry from a place on, and round to it again, that is free for an operand of this sort.
+    fn find(&self, sort: Sort, start: usize) -> Option<usize> {
+        for i in 0..64 {
+            let e = start.wrapping_add(i) % 64;
+            if self.sorts[e] == Some(sort) {
+                return Some(e);
+            }
         }
-        i += 1;
+        None
     }
-    64
-}
 
-// Any entry that is free for an operand of this sort is taken; 64 if none is.
-fn take(seed: &mut u64, free: &mut [u8; 64], sort: u8) -> usize {
-    let e = find(free, sort, below(seed, 64));
-    mark(free, e, TAKEN);
-    e
+    // Any entry that is free for an operand of this sort is taken, if one is.
+    fn take(&mut self, seed: &mut Seed, sort: Sort) -> Option<usize> {
+        let e = self.find(sort, seed.below(64))?;
+        self.mark(e, None);
+        Some(e)
+    }
+
+    // An entry over any two free operands, if there are enough.
+    fn take_two(&mut self, seed: &mut Seed, kind: Kind, left: Sort, right: Sort) -> Option<Entry> {
+        let l = self.take(seed, left)?;
+        let Some(r) = self.take(seed, right) else {
+            self.mark(l, Some(left));
+            return None;
+        };
+        Some(Entry::joining(kind, l, r))
+    }
 }
 
 // The star, half as often `node()`, and as often a tag.
-fn name_test(seed: &mut u64) -> usize {
-    let form = below(seed, 4);
-    if form == 0 {
-        return tag(seed);
+fn name_test(seed: &mut Seed) -> usize {
+    match seed.below(4) {
+        0 => tag(seed),
+        1 => ANY_NODE,
+        _ => STAR,
     }
-    if form == 1 {
-        return evaluator::ANY_NODE;
-    }
-    evaluator::STAR
 }
 
 // A step along any axis.
-pub fn step(seed: &mut u64) -> model::Entry {
-    let axis = below(seed, 13);
-    entry(0, axis, 0, name_test(seed))
+pub fn step(seed: &mut Seed) -> Entry {
+    let axis = seed.axis();
+    Entry::step(axis, name_test(seed))
 }
 
 // Appends the closure of entry e. If that is a step, it mostly becomes one along child, parent, right or left: those lead further where
 // they are taken again, as most axes do not.
-pub fn append_closure(seed: &mut u64, query: &mut table::Table, e: usize) {
-    let f = evaluator::entry_of(table::numbers(query), e);
-    if (f.kind == 0) & (below(seed, 4) != 0) {
-        let axis = std::num::wrapping_add_usize(table::times(4, e), 1);
-        table::put(query, axis, between(seed, 1, 4));
+pub fn append_closure(seed: &mut Seed, query: &mut Query, e: usize) {
+    let f = query.entry(e);
+    let stays = seed.one_in(4);
+    if (f.kind == Kind::Step) & !stays {
+        let axis = seed.near_axis();
+        query.put(e, Entry::step(axis, f.tag));
     }
-    append(query, entry(evaluator::CLOSURE, e, 0, 0));
+    query.push(Entry::over(Kind::Star, e));
 }
 
 // Appends a step and, one time in four, its closure.
-pub fn append_path(seed: &mut u64, query: &mut table::Table) {
-    append(query, step(seed));
-    if below(seed, 4) == 0 {
-        append_closure(seed, query, table::last(query));
+pub fn append_path(seed: &mut Seed, query: &mut Query) {
+    query.push(step(seed));
+    if seed.one_in(4) {
+        append_closure(seed, query, query.last());
     }
 }
 
-// An entry with no operands: of kind 6 or 12, if asked for and there is a variable, else a step.
-fn leaf(seed: &mut u64, kind: usize, columns: usize) -> model::Entry {
-    if kind == 0 {
-        return step(seed);
-    }
-    if columns == 0 {
-        return step(seed);
-    }
-    entry(kind, below(seed, columns), 0, 0)
+// The query goes on by a path.
+pub fn go_on(seed: &mut Seed, query: &mut Query) {
+    let p = query.last();
+    append_path(seed, query);
+    query.join(Kind::Compose, p);
 }
 
-// An entry of this kind over any free operands; a step where there are not enough.
-fn make_entry(seed: &mut u64, free: &mut [u8; 64], kind: usize, columns: usize) -> model::Entry {
-    if left(kind) == 0 {
+// An entry with no operands: of a variable, if asked for and there is one, else a step.
+fn leaf(seed: &mut Seed, kind: Kind, columns: usize) -> Entry {
+    if (kind == Kind::Step) || (columns == 0) {
+        return step(seed);
+    }
+    Entry::over(kind, seed.below(columns))
+}
+
+// An entry of this kind over any free operands, if there are enough.
+fn over_free(seed: &mut Seed, free: &mut Free, kind: Kind) -> Option<Entry> {
+    let left = left_of(kind)?;
+    match right_of(kind) {
+        Some(right) => free.take_two(seed, kind, left, right),
+        None => {
+            let l = free.take(seed, left)?;
+            Some(Entry::over(kind, l))
+        }
+    }
+}
+
+// The same; a step where there are not enough.
+fn make_entry(seed: &mut Seed, free: &mut Free, kind: Kind, columns: usize) -> Entry {
+    if left_of(kind).is_none() {
         return leaf(seed, kind, columns);
     }
-    let l = take(seed, free, left(kind));
-    if l == 64 {
-        return step(seed);
+    match over_free(seed, free, kind) {
+        Some(f) => f,
+        None => step(seed),
     }
-    if right(kind) == 0 {
-        return entry(kind, l, 0, 0);
-    }
-    let r = take(seed, free, right(kind));
-    if r == 64 {
-        mark(free, l, left(kind));
-        return step(seed);
-    }
-    entry(kind, l, r, 0)
 }
 
 // A kind that joins two paths: more often compose or union than intersect or except, which leave less.
-fn joint(seed: &mut u64) -> usize {
-    let k = below(seed, 6);
-    if k < 4 {
-        return k % 2 + 1;
+fn joint(seed: &mut Seed) -> Kind {
+    match seed.below(6) {
+        0 | 2 => Kind::Compose,
+        1 | 3 => Kind::Union,
+        4 => Kind::Intersect,
+        _ => Kind::Except,
     }
-    k - 1
 }
 
-// Any of the 15 kinds, closure and `same` twice as often as any other.
-fn any_kind(seed: &mut u64) -> usize {
-    let k = below(seed, 17);
-    if k < 15 {
-        return k;
+// Any kind, closure and `same` twice as often as any other.
+fn any_kind(seed: &mut Seed) -> Kind {
+    match seed.below(17) {
+        15 => Kind::Star,
+        16 => Kind::Same,
+        k => Kind::from_number(k).unwrap_or(Kind::Step),
     }
-    k - 2
 }
 
-// What is chosen in place of a kind once the query is whole.
-const WHOLE: usize = 15;
-
-// The kind of entry e: any at first; then such that one path remains.
-fn choose(seed: &mut u64, free: &[u8; 64], e: usize, grown: usize) -> usize {
+// The kind of entry e: any at first; then such that one path remains, and none where the query is whole.
+fn choose(seed: &mut Seed, free: &Free, e: usize, grown: usize) -> Option<Kind> {
     if e < grown {
-        return any_kind(seed);
+        return Some(any_kind(seed));
     }
-    let paths = count(free, PATH);
-    let exprs = count(free, EXPR);
-    if exprs == 0 {
-        if paths == 1 {
-            return WHOLE;
+    match (free.count(Sort::Path), free.count(Sort::Expr)) {
+        (1, 0) => None,
+        (_, 0) => Some(joint(seed)),
+        (0, _) => Some(Kind::Step),
+        (_, exprs) => {
+            let joins = seed.one_in(2);
+            if (1 < exprs) & joins {
+                return Some(if seed.one_in(2) { Kind::And } else { Kind::Or });
+            }
+            Some(Kind::Filter)
         }
-        return joint(seed);
     }
-    if paths == 0 {
-        return 0;
-    }
-    if (1 < exprs) & (below(seed, 2) == 0) {
-        return between(seed, 10, 11);
-    }
-    5
-}
-
-// The entry that comes next goes to the end of the query; answers false where the query is whole.
-fn grow(
-    seed: &mut u64,
-    query: &mut table::Table,
-    free: &mut [u8; 64],
-    e: usize,
-    grown: usize,
-    columns: usize,
-) -> bool {
-    let kind = choose(seed, free, e, grown);
-    if kind == WHOLE {
-        return false;
-    }
-    let f = make_entry(seed, free, kind, columns);
-    mark(free, e, result(f.kind));
-    if f.kind == evaluator::CLOSURE {
-        append_closure(seed, query, f.left);
-        return true;
-    }
-    append(query, f);
-    true
 }
 
 // A query of at most one entry more than twice as many as are grown. Operands are taken from anywhere, so that the
 // entries come in any order that the rules admit.
-fn make_query(seed: &mut u64, query: &mut table::Table, grown: usize, columns: usize) {
-    table::set_length(query, 0);
-    let mut free = [TAKEN; 64];
-    let mut e = 0;
-    while e < 64 {
-        if !grow(seed, query, &mut free, e, grown, columns) {
-            return;
+fn make_query(seed: &mut Seed, grown: usize, columns: usize) -> Query {
+    let mut query = Query::new();
+    let mut free = Free { sorts: [None; 64] };
+    for e in 0..64 {
+        let Some(kind) = choose(seed, &free, e, grown) else {
+            return query;
+        };
+        let f = make_entry(seed, &mut free, kind, columns);
+        free.mark(e, Some(sort_of(f.kind)));
+        if f.kind == Kind::Star {
+            append_closure(seed, &mut query, f.left);
+        } else {
+            query.push(f);
         }
-        e += 1;
     }
+    query
 }
 
 // The third part of a line says how many variables a query may use, LEAST MOST; they are 0 to 3 where it says nothing.
-fn columns(seed: &mut u64, line: &line::Line) -> usize {
-    if line::length(line, 2) == 0 {
-        return below(seed, 4);
+fn columns(seed: &mut Seed, line: &Line) -> usize {
+    if line.length(2) == 0 {
+        return seed.below(4);
     }
-    between(seed, line::number(line, 2, 0), line::number(line, 2, 1))
+    seed.within(line, 2, 0)
 }
 
-// How many of so many variables a query names: none where it is bare.
-fn named(variables: usize, bare: bool) -> usize {
-    if bare {
-        return 0;
-    }
-    variables
+// A query over a tree, and how many variables it may use.
+#[derive(Clone, Copy)]
+pub struct Made {
+    pub tree: Tree,
+    pub query: Query,
+    pub columns: usize,
 }
 
-// Makes the tree and the query that a line asks for, LEAST MOST ENTRIES, and answers how many variables the query may use; it names
-// none of them yet where it is to be bare.
-pub fn make_both(
-    seed: &mut u64,
-    line: &line::Line,
-    tree: &mut table::Table,
-    query: &mut table::Table,
-    bare: bool,
-) -> usize {
-    let n = between(seed, line::number(line, 1, 0), line::number(line, 1, 1));
-    let grown = between(seed, 1, line::number(line, 1, 2));
-    let variables = columns(seed, line);
-    make_tree(seed, tree, n);
-    maybe_document(seed, tree);
-    make_query(seed, query, grown, named(variables, bare));
-    variables
+// The tree and the query that a line asks for, LEAST MOST ENTRIES; it names none of its variables yet where it is to be bare.
+pub fn make_both(seed: &mut Seed, line: &Line, bare: bool) -> Made {
+    let n = seed.within(line, 1, 0);
+    let grown = seed.between(1, line.number(1, 2));
+    let columns = columns(seed, line);
+    let mut tree = make_tree(seed, n);
+    maybe_document(seed, &mut tree);
+    let named = if bare { 0 } else { columns };
+    Made {
+        tree,
+        query: make_query(seed, grown, named),
+        columns,
+    }
 }

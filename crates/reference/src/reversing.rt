@@ -1,135 +1,60 @@
 // The query turned round, straight from document 02, §10. No entry is an operand twice, so that each has one part of the new table: how
 // long the parts are is found from the front of the query on, and where they begin from its end back, which also says what stands there.
-use super::{evaluator, random};
+use super::query::{ANY_NODE, Entry, Query, left_of, right_of};
 use harness::table;
+use model::{Axis, Kind};
+
+// Whether an entry stands as it is or reversed.
+#[derive(Clone, Copy, PartialEq, Eq)]
+enum Way {
+    Plain,
+    Turned,
+}
 
 // What is noted of an entry: how many entries it comes to as it is, and reversed; where its part begins; and which of the two stands
 // there.
-const PLAIN: usize = 0;
+#[derive(Clone, Copy)]
+struct Part {
+    plain: usize,
+    turned: usize,
+    start: usize,
+    way: Way,
+}
 
-const TURNED: usize = 1;
+impl Part {
+    fn length(&self, way: Way) -> usize {
+        match way {
+            Way::Plain => self.plain,
+            Way::Turned => self.turned,
+        }
+    }
+}
 
-const START: usize = 2;
-
-const WAY: usize = 3;
+// An entry that comes to nothing.
+const NO_PART: Part = Part {
+    plain: 0,
+    turned: 0,
+    start: 0,
+    way: Way::Plain,
+};
 
 fn plus(a: usize, b: usize) -> usize {
-    std::num::wrapping_add_usize(a, b)
+    a.wrapping_add(b)
 }
 
 fn before(a: usize) -> usize {
-    std::num::wrapping_sub_usize(a, 1)
-}
-
-fn note(plan: &mut table::Table, e: usize, what: usize, value: usize) {
-    table::put(plan, plus(table::times(4, e), what), value);
-}
-
-fn noted(plan: &table::Table, e: usize, what: usize) -> usize {
-    table::at(table::numbers(plan), plus(table::times(4, e), what))
+    a.wrapping_sub(1)
 }
 
 // How many entries a kind has beside those of its operands, where it is reversed; node expressions never are.
-const OWN: [usize; 15] = [3, 1, 1, 1, 1, 3, 7, 8, 0, 0, 0, 0, 0, 1, 0];
-
-fn own(kind: usize) -> usize {
-    if kind < 15 {
-        return OWN[kind];
+fn own(kind: Kind) -> usize {
+    match kind {
+        Kind::Step | Kind::Filter => 3,
+        Kind::Compose | Kind::Union | Kind::Intersect | Kind::Except | Kind::Star => 1,
+        Kind::Variable => 7,
+        Kind::Root => 8,
+        _ => 0,
     }
-    0
-}
-
-// How many entries an operand of a sort comes to, if it is one.
-fn length_of(plan: &table::Table, sort: u8, e: usize, way: usize) -> usize {
-    if sort == 0 {
-        return 0;
-    }
-    noted(plan, e, way)
-}
-
-// Both lengths of entry e, whose operands have theirs. A filter is reversed with its node expression as it is.
-fn measure(plan: &mut table::Table, query: &[u16], e: usize) {
-    let f = evaluator::entry_of(query, e);
-    let l = random::left(f.kind);
-    let r = random::right(f.kind);
-    let plain = plus(
-        length_of(plan, l, f.left, PLAIN),
-        length_of(plan, r, f.right, PLAIN),
-    );
-    let mut behind = TURNED;
-    if f.kind == 5 {
-        behind = PLAIN;
-    }
-    let turned = plus(
-        length_of(plan, l, f.left, TURNED),
-        length_of(plan, r, f.right, behind),
-    );
-    note(plan, e, PLAIN, plus(1, plain));
-    note(plan, e, TURNED, plus(own(f.kind), turned));
-}
-
-fn measure_all(plan: &mut table::Table, query: &[u16]) {
-    let entries = query.len() / 4;
-    let mut e = 0;
-    while e < entries {
-        measure(plan, query, e);
-        e += 1;
-    }
-}
-
-// The part of entry e begins at a place, with the entry as it is or reversed; answers where the part ends.
-fn begin(plan: &mut table::Table, e: usize, start: usize, way: usize) -> usize {
-    note(plan, e, START, start);
-    note(plan, e, WAY, way);
-    plus(start, noted(plan, e, way))
-}
-
-// Writes entry `at` of the new table.
-fn put(to: &mut table::Table, at: usize, kind: usize, left: usize, right: usize, tag: usize) {
-    let place = table::times(4, at);
-    table::put(to, place, kind);
-    table::put(to, plus(place, 1), left);
-    table::put(to, plus(place, 2), right);
-    table::put(to, plus(place, 3), tag);
-}
-
-// A step along an axis to any node.
-fn put_any(to: &mut table::Table, at: usize, axis: usize) {
-    put(to, at, 0, axis, 0, evaluator::ANY_NODE);
-}
-
-// An entry over the two parts before it, of which one ends where the other begins.
-fn put_over(to: &mut table::Table, at: usize, kind: usize, middle: usize) {
-    put(to, at, kind, before(middle), before(at), 0);
-}
-
-// Two operands, one part behind the other, and the entry over them.
-fn lay_two(
-    plan: &mut table::Table,
-    to: &mut table::Table,
-    kind: usize,
-    first: usize,
-    second: usize,
-    start: usize,
-    way: usize,
-) {
-    let middle = begin(plan, first, start, way);
-    let end = begin(plan, second, middle, way);
-    put_over(to, end, kind, middle);
-}
-
-// An entry as it is.
-fn lay_plain(plan: &mut table::Table, to: &mut table::Table, f: model::Entry, start: usize) {
-    if random::left(f.kind) == 0 {
-        put(to, start, f.kind, f.left, f.right, f.tag);
-        return;
-    }
-    if random::right(f.kind) == 0 {
-        let end = begin(plan, f.left, start, PLAIN);
-        put(to, end, f.kind, before(end), 0, 0);
-        return;
-    }
-    lay_two(plan, to, f.kind, f.left, f.right, start, PLAIN);
 }
 
 // The converse of an axis: past self they come in twos.
@@ -138,117 +63,186 @@ fn converse(axis: usize) -> usize {
         return 0;
     }
     if axis % 2 == 0 {
-        return before(axis);
-    }
-    plus(axis, 1)
-}
-
-// self::TEST/CONVERSE::node()
-fn lay_step(to: &mut table::Table, f: model::Entry, start: usize) {
-    put(to, start, 0, 0, 0, f.tag);
-    put_any(to, plus(start, 1), converse(f.left));
-    put_over(to, plus(start, 2), 1, plus(start, 1));
-}
-
-// self::node()[. is $k]/ancestor-or-self::node()/descendant-or-self::node()
-fn lay_variable(to: &mut table::Table, k: usize, start: usize) {
-    put_any(to, start, 0);
-    put(to, plus(start, 1), 12, k, 0, 0);
-    put_over(to, plus(start, 2), 5, plus(start, 1));
-    put_any(to, plus(start, 3), 12);
-    put_over(to, plus(start, 4), 1, plus(start, 3));
-    put_any(to, plus(start, 5), 11);
-    put_over(to, plus(start, 6), 1, plus(start, 5));
-}
-
-// The reversed path, then /self::node()[not(parent::node())]/descendant-or-self::node()
-fn lay_root(to: &mut table::Table, end: usize) {
-    put_any(to, end, 0);
-    put_any(to, plus(end, 1), 2);
-    put(to, plus(end, 2), 8, plus(end, 1), 0, 0);
-    put(to, plus(end, 3), 9, plus(end, 2), 0, 0);
-    put_over(to, plus(end, 4), 5, plus(end, 1));
-    put_over(to, plus(end, 5), 1, end);
-    put_any(to, plus(end, 6), 11);
-    put_over(to, plus(end, 7), 1, plus(end, 6));
-}
-
-// self::node()[TEST]/, then the reversed path
-fn lay_filter(plan: &mut table::Table, to: &mut table::Table, f: model::Entry, start: usize) {
-    put_any(to, start, 0);
-    let under = begin(plan, f.right, plus(start, 1), PLAIN);
-    put_over(to, under, 5, plus(start, 1));
-    let end = begin(plan, f.left, plus(under, 1), TURNED);
-    put_over(to, end, 1, plus(under, 1));
-}
-
-// A path over two others: a compose swaps them.
-fn lay_join(plan: &mut table::Table, to: &mut table::Table, f: model::Entry, start: usize) {
-    if f.kind == 1 {
-        lay_two(plan, to, 1, f.right, f.left, start, TURNED);
-        return;
-    }
-    lay_two(plan, to, f.kind, f.left, f.right, start, TURNED);
-}
-
-// A path over one other: from the root, or its star.
-fn lay_over(plan: &mut table::Table, to: &mut table::Table, f: model::Entry, start: usize) {
-    let end = begin(plan, f.left, start, TURNED);
-    if f.kind == 7 {
-        lay_root(to, end);
-        return;
-    }
-    put(to, end, f.kind, before(end), 0, 0);
-}
-
-// A path reversed.
-fn lay_turned(plan: &mut table::Table, to: &mut table::Table, f: model::Entry, start: usize) {
-    if f.kind == 0 {
-        lay_step(to, f, start);
-        return;
-    }
-    if f.kind < 5 {
-        lay_join(plan, to, f, start);
-        return;
-    }
-    if f.kind == 5 {
-        lay_filter(plan, to, f, start);
-        return;
-    }
-    if f.kind == 6 {
-        lay_variable(to, f.left, start);
-        return;
-    }
-    lay_over(plan, to, f, start);
-}
-
-// What entry e adds to its part; its operands' parts begin.
-fn lay(plan: &mut table::Table, to: &mut table::Table, query: &[u16], e: usize) {
-    let f = evaluator::entry_of(query, e);
-    let start = noted(plan, e, START);
-    if noted(plan, e, WAY) == TURNED {
-        lay_turned(plan, to, f, start);
-        return;
-    }
-    lay_plain(plan, to, f, start);
-}
-
-fn lay_all(plan: &mut table::Table, to: &mut table::Table, query: &[u16]) {
-    let mut e = query.len() / 4;
-    while 0 < e {
-        e -= 1;
-        lay(plan, to, query, e);
+        before(axis)
+    } else {
+        plus(axis, 1)
     }
 }
 
-// Makes the reversed query of one that is accepted, as far as 256 entries reach, and answers how many it has.
-pub fn make(query: &table::Table, to: &mut table::Table) -> usize {
-    let mut plan = [0u16; 1025];
-    table::set_length(&mut plan, 256);
-    table::set_length(to, 1024);
-    measure_all(&mut plan, table::numbers(query));
-    let entries = begin(&mut plan, table::last(query), 0, TURNED);
-    lay_all(&mut plan, to, table::numbers(query));
-    table::set_length(to, table::times(4, entries));
-    entries
+// A plan of the new table, and the table as far as it is laid.
+#[derive(Drop)]
+struct Laying {
+    plan: [Part; 256],
+    to: Query,
+}
+
+impl Laying {
+    fn part(&self, e: usize) -> Part {
+        if e < 256 { self.plan[e] } else { NO_PART }
+    }
+
+    // Both lengths of an entry, whose operands have theirs. A filter is reversed with its node expression as it is.
+    fn measure(&self, f: Entry) -> Part {
+        let mut left = NO_PART;
+        let mut right = NO_PART;
+        if left_of(f.kind).is_some() {
+            left = self.part(f.left);
+        }
+        if right_of(f.kind).is_some() {
+            right = self.part(f.right);
+        }
+        let behind = match f.kind {
+            Kind::Filter => right.plain,
+            _ => right.turned,
+        };
+        Part {
+            plain: plus(1, plus(left.plain, right.plain)),
+            turned: plus(own(f.kind), plus(left.turned, behind)),
+            ..NO_PART
+        }
+    }
+
+    // The part of entry e begins at a place, with the entry as it is or reversed; answers where the part ends.
+    fn begin(&mut self, e: usize, start: usize, way: Way) -> usize {
+        let mut part = self.part(e);
+        part.start = start;
+        part.way = way;
+        table::put(&mut self.plan, e, part);
+        plus(start, part.length(way))
+    }
+
+    // Writes entry `at` of the new table.
+    fn put(&mut self, at: usize, f: Entry) {
+        self.to.put(at, f);
+    }
+
+    // A step along an axis to any node.
+    fn put_any(&mut self, at: usize, axis: Axis) {
+        self.put(at, Entry::step(axis, ANY_NODE));
+    }
+
+    // An entry over the two parts before it, of which one ends where the other begins.
+    fn put_over(&mut self, at: usize, kind: Kind, middle: usize) {
+        self.put(at, Entry::joining(kind, before(middle), before(at)));
+    }
+
+    // Two operands, one part behind the other, and the entry over them.
+    fn lay_two(&mut self, kind: Kind, first: usize, second: usize, start: usize, way: Way) {
+        let middle = self.begin(first, start, way);
+        let end = self.begin(second, middle, way);
+        self.put_over(end, kind, middle);
+    }
+
+    // An entry as it is.
+    fn lay_plain(&mut self, f: Entry, start: usize) {
+        if left_of(f.kind).is_none() {
+            self.put(start, f);
+            return;
+        }
+        if right_of(f.kind).is_none() {
+            let end = self.begin(f.left, start, Way::Plain);
+            self.put(end, Entry::over(f.kind, before(end)));
+            return;
+        }
+        self.lay_two(f.kind, f.left, f.right, start, Way::Plain);
+    }
+
+    // self::TEST/CONVERSE::node()
+    fn lay_step(&mut self, f: Entry, start: usize) {
+        let axis = Axis::from_number(converse(f.left)).unwrap_or(Axis::Itself);
+        self.put(start, Entry::step(Axis::Itself, f.tag));
+        self.put_any(plus(start, 1), axis);
+        self.put_over(plus(start, 2), Kind::Compose, plus(start, 1));
+    }
+
+    // self::node()[. is $k]/ancestor-or-self::node()/descendant-or-self::node()
+    fn lay_variable(&mut self, k: usize, start: usize) {
+        self.put_any(start, Axis::Itself);
+        self.put(plus(start, 1), Entry::over(Kind::Is, k));
+        self.put_over(plus(start, 2), Kind::Filter, plus(start, 1));
+        self.put_any(plus(start, 3), Axis::AncestorOrSelf);
+        self.put_over(plus(start, 4), Kind::Compose, plus(start, 3));
+        self.put_any(plus(start, 5), Axis::DescendantOrSelf);
+        self.put_over(plus(start, 6), Kind::Compose, plus(start, 5));
+    }
+
+    // The reversed path, then /self::node()[not(parent::node())]/descendant-or-self::node()
+    fn lay_root(&mut self, end: usize) {
+        self.put_any(end, Axis::Itself);
+        self.put_any(plus(end, 1), Axis::Parent);
+        self.put(plus(end, 2), Entry::over(Kind::Exists, plus(end, 1)));
+        self.put(plus(end, 3), Entry::over(Kind::Not, plus(end, 2)));
+        self.put_over(plus(end, 4), Kind::Filter, plus(end, 1));
+        self.put_over(plus(end, 5), Kind::Compose, end);
+        self.put_any(plus(end, 6), Axis::DescendantOrSelf);
+        self.put_over(plus(end, 7), Kind::Compose, plus(end, 6));
+    }
+
+    // self::node()[TEST]/, then the reversed path
+    fn lay_filter(&mut self, f: Entry, start: usize) {
+        self.put_any(start, Axis::Itself);
+        let under = self.begin(f.right, plus(start, 1), Way::Plain);
+        self.put_over(under, Kind::Filter, plus(start, 1));
+        let end = self.begin(f.left, plus(under, 1), Way::Turned);
+        self.put_over(end, Kind::Compose, plus(under, 1));
+    }
+
+    // A path reversed: a compose swaps its operands.
+    fn lay_turned(&mut self, f: Entry, start: usize) {
+        match f.kind {
+            Kind::Step => self.lay_step(f, start),
+            Kind::Compose => self.lay_two(f.kind, f.right, f.left, start, Way::Turned),
+            Kind::Union | Kind::Intersect | Kind::Except => {
+                self.lay_two(f.kind, f.left, f.right, start, Way::Turned);
+            }
+            Kind::Filter => self.lay_filter(f, start),
+            Kind::Variable => self.lay_variable(f.left, start),
+            Kind::Root => {
+                let end = self.begin(f.left, start, Way::Turned);
+                self.lay_root(end);
+            }
+            _ => {
+                let end = self.begin(f.left, start, Way::Turned);
+                self.put(end, Entry::over(f.kind, before(end)));
+            }
+        }
+    }
+
+    // What entry e adds to its part; its operands' parts begin.
+    fn lay(&mut self, f: Entry, e: usize) {
+        let part = self.part(e);
+        match part.way {
+            Way::Turned => self.lay_turned(f, part.start),
+            Way::Plain => self.lay_plain(f, part.start),
+        }
+    }
+}
+
+// A reversed query as far as 256 entries reach, and how many it has.
+#[derive(Clone, Copy)]
+pub struct Reversed {
+    pub query: Query,
+    pub entries: usize,
+}
+
+// The reversed query of one that is accepted.
+pub fn make(query: &Query) -> Reversed {
+    let mut laying = Laying {
+        plan: [NO_PART; 256],
+        to: Query::new(),
+    };
+    for e in 0..query.entries() {
+        let part = laying.measure(query.entry(e));
+        table::put(&mut laying.plan, e, part);
+    }
+    let entries = laying.begin(query.last(), 0, Way::Turned);
+    for e in (0..query.entries()).rev() {
+        laying.lay(query.entry(e), e);
+    }
+    let mut reversed = laying.to;
+    reversed.table.set_length(entries.wrapping_mul(4));
+    Reversed {
+        query: reversed,
+        entries,
+    }
 }

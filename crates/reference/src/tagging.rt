@@ -1,17 +1,15 @@
 // Trees by their tags: few of them, one, all different, or any; and a document node in some.
-use super::{evaluator, indexing, random};
-use harness::{line, table};
+use super::random::{Seed, make_tree, maybe_document};
+use super::tree::{DOCUMENT, Tree};
+use harness::line::Line;
 
 // The lowest tag, the highest, or any.
-fn any_tag(seed: &mut u64) -> usize {
-    let form = random::below(seed, 4);
-    if form == 0 {
-        return 0;
+fn any_tag(seed: &mut Seed) -> usize {
+    match seed.below(4) {
+        0 => 0,
+        1 => 65533,
+        _ => seed.between(0, 65533),
     }
-    if form == 1 {
-        return 65533;
-    }
-    random::between(seed, 0, 65533)
 }
 
 // One of n different tags, the first 0 and the last 65533.
@@ -19,60 +17,46 @@ fn spread(x: usize, n: usize) -> usize {
     if n < 2 {
         return 65533;
     }
-    table::times(x, 65533) / (n - 1)
+    x.wrapping_mul(65533) / (n - 1)
 }
 
-// The tag of node x where there is one for all, where all are different, or any.
-fn tag_for(seed: &mut u64, form: usize, one: usize, x: usize, n: usize) -> usize {
-    if form == 0 {
-        return one;
-    }
-    if form == 1 {
-        return spread(x, n);
-    }
-    any_tag(seed)
-}
-
-fn retag(seed: &mut u64, tree: &mut table::Table, form: usize) {
-    let n = table::size(tree);
+// One tag for all nodes, or all different, or any.
+fn retag(seed: &mut Seed, tree: &mut Tree, form: usize) {
+    let n = tree.size();
     let one = any_tag(seed);
-    let mut x = 0;
-    while x < n {
-        let tag = tag_for(seed, form, one, x, n);
-        table::put(tree, indexing::tag_place(x), tag);
-        x += 1;
+    for x in 0..n {
+        let tag = match form {
+            0 => one,
+            1 => spread(x, n),
+            _ => any_tag(seed),
+        };
+        tree.set_tag(x, tag);
     }
-}
-
-fn swap_tags(tree: &mut table::Table, x: usize, y: usize) {
-    let a = indexing::tag_of(table::numbers(tree), x);
-    let b = indexing::tag_of(table::numbers(tree), y);
-    table::put(tree, indexing::tag_place(x), b);
-    table::put(tree, indexing::tag_place(y), a);
 }
 
 // The tags in any order.
-fn shuffle(seed: &mut u64, tree: &mut table::Table) {
-    let n = table::size(tree);
-    let mut x = 0;
-    while x < n {
-        let other = random::between(seed, 0, x);
-        swap_tags(tree, x, other);
-        x += 1;
+fn shuffle(seed: &mut Seed, tree: &mut Tree) {
+    for x in 0..tree.size() {
+        let y = seed.between(0, x);
+        let a = tree.tag(x);
+        let b = tree.tag(y);
+        tree.set_tag(x, b);
+        tree.set_tag(y, a);
     }
 }
 
-// Makes a tree that a line asks for, LEAST MOST. Every other one keeps its few tags, since its chains are long and other tags come
+// A tree that a line asks for, LEAST MOST. Every other one keeps its few tags, since its chains are long and other tags come
 // between.
-pub fn make(seed: &mut u64, line: &line::Line, tree: &mut table::Table) {
-    let n = random::between(seed, line::number(line, 1, 0), line::number(line, 1, 1));
-    random::make_tree(seed, tree, n);
-    let form = random::below(seed, 6);
+pub fn make(seed: &mut Seed, line: &Line) -> Tree {
+    let n = seed.within(line, 1, 0);
+    let mut tree = make_tree(seed, n);
+    let form = seed.below(6);
     if form < 3 {
-        retag(seed, tree, form);
-        shuffle(seed, tree);
+        retag(seed, &mut tree, form);
+        shuffle(seed, &mut tree);
     }
-    random::maybe_document(seed, tree);
+    maybe_document(seed, &mut tree);
+    tree
 }
 
 // What to look for: the node where a search starts, and the tag.
@@ -83,23 +67,20 @@ pub struct Aim {
 }
 
 // The tag of a node; now and then any, or one of the two that no descendant has: a document node's, and 65535.
-fn wanted(seed: &mut u64, tree: &[u16], x: usize) -> usize {
-    let form = random::below(seed, 12);
-    if form == 0 {
-        return random::between(seed, evaluator::DOCUMENT, 65535);
+fn wanted(seed: &mut Seed, tree: &Tree, x: usize) -> usize {
+    match seed.below(12) {
+        0 => seed.between(DOCUMENT, 65535),
+        1 => any_tag(seed),
+        _ => tree.tag(x),
     }
-    if form == 1 {
-        return any_tag(seed);
-    }
-    indexing::tag_of(tree, x)
 }
 
 // Any node is looked for by its tag, from one of its ancestors or, rarely, from itself.
-pub fn choose_aim(seed: &mut u64, tree: &table::Table) -> Aim {
-    let x = random::below(seed, table::size(tree));
-    let steps = random::below(seed, 8);
+pub fn choose_aim(seed: &mut Seed, tree: &Tree) -> Aim {
+    let x = seed.below(tree.size());
+    let steps = seed.below(8);
     Aim {
-        start: random::climbed(tree, x, steps),
-        tag: wanted(seed, table::numbers(tree), x),
+        start: tree.climbed(x, steps),
+        tag: wanted(seed, tree, x),
     }
 }

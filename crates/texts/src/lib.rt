@@ -4,4 +4,5 @@
 pub mod damage;
 pub mod grow;
 pub mod productions;
+pub mod text;
 pub mod vocabulary;

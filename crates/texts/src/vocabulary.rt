@@ -1,133 +1,95 @@
 // Vocabularies of a few names, some of them more than once, and the tags that are due.
-use chart::words;
+use super::text::Text;
 use harness::table;
-use reference::random;
+use reference::random::Seed;
 
-// The tag of each name, and UNKNOWN if it has none.
-pub type Tags = [usize; 20];
+// How many names there are, and how many of them may be in a vocabulary; the two behind those are too long.
+const COUNT: usize = 20;
 
-pub const UNKNOWN: usize = 65535;
-
-// What fills a name up to 40 bytes.
-const END: u8 = b'~';
-
-// How many of the names may be in a vocabulary; the two behind them are too long.
 pub const SHORT: usize = 18;
 
 // Names that words of the grammar, or each other, begin with or spell.
-const NAMES: [[u8; 40]; 20] = [
-    *b"a~~~~~~~~~~~~~~~~~~~~~~~~~~~~~~~~~~~~~~~",
-    *b"ab~~~~~~~~~~~~~~~~~~~~~~~~~~~~~~~~~~~~~~",
-    *b"A~~~~~~~~~~~~~~~~~~~~~~~~~~~~~~~~~~~~~~~",
-    *b"or~~~~~~~~~~~~~~~~~~~~~~~~~~~~~~~~~~~~~~",
-    *b"and~~~~~~~~~~~~~~~~~~~~~~~~~~~~~~~~~~~~~",
-    *b"union~~~~~~~~~~~~~~~~~~~~~~~~~~~~~~~~~~~",
-    *b"intersect~~~~~~~~~~~~~~~~~~~~~~~~~~~~~~~",
-    *b"except~~~~~~~~~~~~~~~~~~~~~~~~~~~~~~~~~~",
-    *b"not~~~~~~~~~~~~~~~~~~~~~~~~~~~~~~~~~~~~~",
-    *b"is~~~~~~~~~~~~~~~~~~~~~~~~~~~~~~~~~~~~~~",
-    *b"same~~~~~~~~~~~~~~~~~~~~~~~~~~~~~~~~~~~~",
-    *b"self~~~~~~~~~~~~~~~~~~~~~~~~~~~~~~~~~~~~",
-    *b"_-9Z~~~~~~~~~~~~~~~~~~~~~~~~~~~~~~~~~~~~",
-    *b"0~~~~~~~~~~~~~~~~~~~~~~~~~~~~~~~~~~~~~~~",
-    *b"nod~~~~~~~~~~~~~~~~~~~~~~~~~~~~~~~~~~~~~",
-    *b"node~~~~~~~~~~~~~~~~~~~~~~~~~~~~~~~~~~~~",
-    *b"nodes~~~~~~~~~~~~~~~~~~~~~~~~~~~~~~~~~~~",
-    *b"abcdefghijklmnopqrstuvwxyz-_0123~~~~~~~~",
-    *b"abcdefghijklmnopqrstuvwxyz-_01234~~~~~~~",
-    *b"ABCDEFGHIJKLMNOPQRSTUVWXYZ-_0123456789aA",
+const NAMES: [&[u8]; COUNT] = [
+    b"a",
+    b"ab",
+    b"A",
+    b"or",
+    b"and",
+    b"union",
+    b"intersect",
+    b"except",
+    b"not",
+    b"is",
+    b"same",
+    b"self",
+    b"_-9Z",
+    b"0",
+    b"nod",
+    b"node",
+    b"nodes",
+    b"abcdefghijklmnopqrstuvwxyz-_0123",
+    b"abcdefghijklmnopqrstuvwxyz-_01234",
+    b"ABCDEFGHIJKLMNOPQRSTUVWXYZ-_0123456789aA",
 ];
 
-fn byte(name: usize, k: usize) -> u8 {
-    if name < 20 {
-        if k < 40 {
-            return NAMES[name][k];
+pub fn name(number: usize) -> &'static [u8] {
+    match NAMES.get(number) {
+        Some(name) => *name,
+        None => b"",
+    }
+}
+
+// The tag of each name, if it has one.
+#[derive(Clone, Copy)]
+pub struct Tags {
+    tags: [Option<usize>; COUNT],
+}
+
+impl Tags {
+    // No name has a tag.
+    pub fn new() -> Tags {
+        Tags {
+            tags: [None; COUNT],
         }
     }
-    END
-}
 
-pub fn length(name: usize) -> usize {
-    let mut k = 0;
-    while k < 40 {
-        if byte(name, k) == END {
-            return k;
+    // The tag of a name; a name from beyond the list has none.
+    pub fn tag(&self, number: usize) -> Option<usize> {
+        if number < COUNT {
+            self.tags[number]
+        } else {
+            None
         }
-        k += 1;
     }
-    k
-}
 
-// Writes a name to a place.
-pub fn put(name: usize, to: &mut words::Bytes, place: usize) {
-    let end = length(name);
-    let mut k = 0;
-    while k < end {
-        words::put_byte(to, std::num::wrapping_add_usize(place, k), byte(name, k));
-        k += 1;
-    }
-}
-
-// The tag of a name; a name from beyond the list has none.
-pub fn tag(tags: &Tags, name: usize) -> usize {
-    if name < 20 {
-        return tags[name];
-    }
-    UNKNOWN
-}
-
-// A name gets a tag, unless it has a lower one.
-fn meet(tags: &mut Tags, name: usize, tag: usize) {
-    if name < 20 {
-        if tags[name] == UNKNOWN {
-            tags[name] = tag;
+    // A name gets a tag, unless it has a lower one.
+    fn meet(&mut self, number: usize, tag: usize) {
+        if self.tag(number).is_none() {
+            table::put(&mut self.tags, number, Some(tag));
         }
     }
 }
 
-// A name goes to the end of a vocabulary.
-fn append(to: &mut words::Bytes, end: usize, name: usize) -> usize {
-    let size = length(name);
-    let start = std::num::wrapping_add_usize(end, 1);
-    words::put_byte(to, end, table::byte(size));
-    put(name, to, start);
-    std::num::wrapping_add_usize(start, size)
+// A name goes to the end of a vocabulary, behind a byte that tells how long it is to be.
+fn append(to: &mut Text, told: usize, name: &[u8]) {
+    to.push(table::byte(told));
+    to.append(name);
 }
 
-// So many of the names that are not too long, from a tag on; answers where the vocabulary ends.
-pub fn fill(
-    seed: &mut u64,
-    to: &mut words::Bytes,
-    tags: &mut Tags,
-    first: usize,
-    count: usize,
-) -> usize {
-    let mut end = 0;
-    let mut i = 0;
-    while i < count {
-        let name = random::below(seed, SHORT);
-        let next = append(to, end, name);
-        end = next;
-        meet(tags, name, std::num::wrapping_add_usize(first, i));
-        i += 1;
+// So many of the names that are not too long, from a tag on, go to the end of a vocabulary.
+pub fn fill(seed: &mut Seed, to: &mut Text, tags: &mut Tags, first: usize, count: usize) {
+    for i in 0..count {
+        let number = seed.below(SHORT);
+        append(to, name(number).len(), name(number));
+        tags.meet(number, first.wrapping_add(i));
     }
-    end
 }
 
 // The vocabulary gets a last name that is empty, too long, or not all there.
-pub fn spoil(seed: &mut u64, to: &mut words::Bytes, end: usize) -> usize {
-    let form = random::below(seed, 3);
-    let start = std::num::wrapping_add_usize(end, 1);
-    if form == 0 {
-        words::put_byte(to, end, 0);
-        return start;
+pub fn spoil(seed: &mut Seed, to: &mut Text) {
+    match seed.below(3) {
+        0 => to.push(0),
+        1 => append(to, 33, name(SHORT)),
+        _ => append(to, 4, b"and"),
     }
-    if form == 1 {
-        words::put_byte(to, end, 33);
-        put(SHORT, to, start);
-        return std::num::wrapping_add_usize(start, 33);
-    }
-    words::put_byte(to, end, 4);
-    put(4, to, start);
-    std::num::wrapping_add_usize(start, 3)
 }

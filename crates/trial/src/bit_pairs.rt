@@ -1,126 +1,69 @@
 // Pairs in bits: each call is compared with the reply that is due, and the buffer, which is filled with a pattern, with the words
 // that are due.
-use harness::{line, shared, table, tally};
-use reference::{bit_damage, bit_tables, random, seeing};
+use super::call::Lent;
+use harness::line::Line;
+use harness::table::{Cells, Words};
+use harness::tally::Tally;
+use model::{Refusal, Reply};
+use reference::random::Seed;
+use reference::{bit_damage, bit_tables, seeing};
 
 // What fills a buffer before a call: the bytes of the word are all 7.
 pub const PATTERN: u64 = 506381209866536711;
 
-// A call: what is lent beside the tables and the party, the number of variables and the words that there is room for; and the reply that
-// is due.
-#[derive(Clone, Copy)]
-pub struct Call {
-    pub columns: usize,
-    pub room: usize,
-    pub due: model::Reply,
-}
-
-// A reply that no service gives.
-pub fn no_reply() -> model::Reply {
-    model::Reply {
-        number: 65535,
-        place: 65535,
-    }
-}
-
 // Compares a reply with the one that is due.
-pub fn expect(tally: &mut tally::Tally, got: model::Reply, due: model::Reply) {
-    tally::expect_reply(tally, got, model::wide(due.number), model::wide(due.place));
+pub fn expect(tally: &mut Tally, got: Reply, due: Result<(), Refusal>) {
+    let reply = Reply::from(due);
+    tally.expect_reply(got, usize::from(reply.number), usize::from(reply.place));
 }
 
-// Lends the front of the buffer.
-fn lend(
-    c: Call,
-    shared: &shared::Shared,
-    query: &[u16],
-    nodes: &[u16],
-    to: &mut [u64],
-) -> model::Reply {
-    let room = c.room;
-    if to.len() < room {
-        return no_reply();
-    }
-    let t = shared::numbers(shared);
-    let party = shared::party(shared);
-    parties::pairs_bits(t, party, query, c.columns, nodes, &mut to[0..room])
-}
-
+// A call with so many variables, and room for so many words.
 fn compare(
-    tally: &mut tally::Tally,
-    c: Call,
-    shared: &shared::Shared,
-    query: &table::Table,
-    nodes: &table::Table,
-    due: &table::Words,
+    tally: &mut Tally,
+    lent: Lent,
+    columns: usize,
+    room: usize,
+    due: Result<(), Refusal>,
+    words: &Words,
 ) {
     let mut to = [PATTERN; 1040];
-    let q = table::numbers(query);
-    let k = table::numbers(nodes);
-    let got = lend(c, shared, q, k, &mut to);
-    expect(tally, got, c.due);
-    tally::expect_words(tally, &to, due);
+    let t = lent.shared.numbers();
+    let party = lent.shared.party();
+    let q = lent.query.numbers();
+    let k = lent.nodes.numbers();
+    let end = room.min(1040);
+    let got = parties::pairs_bits(t, party, q, columns, k, &mut to[..end]);
+    expect(tally, got, due);
+    tally.expect_words(&to, words);
 }
 
 // A call that is accepted, by a party that sees n nodes, with the pairs that are due as bytes, and room for as many words as are needed or
 // a few more.
-pub fn compare_table(
-    tally: &mut tally::Tally,
-    seed: &mut u64,
-    shared: &shared::Shared,
-    n: usize,
-    query: &table::Table,
-    nodes: &table::Table,
-    cells: &table::Cells,
-) {
+pub fn compare_table(tally: &mut Tally, seed: &mut Seed, lent: Lent, n: usize, cells: &Cells) {
     let mut due = [PATTERN; 1040];
     bit_tables::pack(cells, n, &mut due);
-    let c = Call {
-        columns: table::length(nodes),
-        room: std::num::wrapping_add_usize(table::times(4, n), random::below(seed, 3)),
-        due: model::Reply {
-            number: 0,
-            place: 0,
-        },
-    };
-    compare(tally, c, shared, query, nodes, &due);
+    let room = n.wrapping_mul(4).wrapping_add(seed.below(3));
+    compare(tally, lent, lent.nodes.length(), room, Ok(()), &due);
 }
 
 // The pairs that a line of the input has due as bytes, in its last part.
-pub fn run(
-    tally: &mut tally::Tally,
-    shared: &shared::Shared,
-    query: &table::Table,
-    nodes: &table::Table,
-    line: &line::Line,
-) {
+pub fn run(tally: &mut Tally, lent: Lent, line: &Line) {
     let mut cells = [0u8; 66560];
-    let mut tree = [0u16; 1025];
-    let mut seed: u64 = 1;
-    line::copy_bytes(line, 4, &mut cells);
-    seeing::make(shared, &mut tree);
-    let n = table::size(&tree);
-    compare_table(tally, &mut seed, shared, n, query, nodes, &cells);
+    let mut seed = Seed::new(1);
+    line.copy_bytes(4, &mut cells);
+    compare_table(tally, &mut seed, lent, seeing::size(lent.shared), &cells);
 }
 
-// A call with a fault in what it is lent; nothing is written. The query has fewer than 64 entries.
-pub fn refuse(
-    tally: &mut tally::Tally,
-    seed: &mut u64,
-    shared: &shared::Shared,
-    n: usize,
-    query: &table::Table,
-    nodes: &table::Table,
-) {
-    let due = [PATTERN; 1040];
-    let mut other = *shared;
-    let mut other_query = *query;
-    let mut other_nodes = *nodes;
-    let f = bit_damage::put(seed, &mut other, &mut other_query, &mut other_nodes, n);
-    let reply = f.reply;
-    let c = Call {
-        columns: f.columns,
-        room: f.room,
-        due: reply,
+// A call with a fault in what it is lent, by a party that sees n nodes; nothing is written. The query has fewer than 64 entries.
+pub fn refuse(tally: &mut Tally, seed: &mut Seed, lent: Lent, n: usize) {
+    let mut shared = *lent.shared;
+    let mut query = *lent.query;
+    let mut nodes = *lent.nodes;
+    let f = bit_damage::put(seed, &mut shared, &mut query, &mut nodes, n);
+    let other = Lent {
+        shared: &shared,
+        query: &query,
+        nodes: &nodes,
     };
-    compare(tally, c, &other, &other_query, &other_nodes, &due);
+    compare(tally, other, f.columns, f.room, Err(f.refusal), &[PATTERN; 1040]);
 }

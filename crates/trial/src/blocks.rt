@@ -1,156 +1,110 @@
 // The blocks of rows that a page can leave out: the rows that begin with the same nodes for the first variables, where none is an answer
 // and all variables under a `not` or right of an except are among the first. Told from the query and the answers alone.
-use harness::{table, tally};
-use reference::{evaluator, listing, random};
+use harness::table::Cells;
+use harness::tally::{Sum, Tally};
+use model::Kind;
+use reference::listing::{Answers, Space, is_marked};
+use reference::query::{Entry, Query};
 
-fn larger(a: usize, b: usize) -> usize {
-    if a < b {
-        return b;
-    }
-    a
+// Of the variables that stand in an entry: one more than the highest, 0 if there is none; and the same of those that stand under a `not`
+// or right of an except.
+#[derive(Clone, Copy)]
+struct Reach {
+    all: usize,
+    bound: usize,
 }
 
-// What an entry's operands have in a list, the larger of the two; 0 where it has none.
-fn of_operands(f: model::Entry, list: &table::Table) -> usize {
-    let mut most = 0;
-    if random::left(f.kind) != 0 {
-        most = table::at(table::numbers(list), f.left);
-    }
-    if random::right(f.kind) != 0 {
-        most = larger(most, table::at(table::numbers(list), f.right));
-    }
-    most
-}
+const NONE: Reach = Reach { all: 0, bound: 0 };
 
-// One more than the highest variable that stands in an entry, 0 if none does.
-fn reach_of(f: model::Entry, reach: &table::Table) -> usize {
-    if (f.kind == 6) | (f.kind == 12) {
-        return std::num::wrapping_add_usize(f.left, 1);
-    }
-    of_operands(f, reach)
-}
-
-// The same of those that stand under a `not` or right of an except.
-fn bound_of(f: model::Entry, reach: &table::Table, bound: &table::Table) -> usize {
-    let inside = of_operands(f, bound);
-    if f.kind == 9 {
-        return table::at(table::numbers(reach), f.left);
-    }
-    if f.kind == 4 {
-        return larger(inside, table::at(table::numbers(reach), f.right));
-    }
-    inside
-}
-
-// Writes for each entry of a query how far those reach.
-fn fill(query: &table::Table, bounds: &mut table::Table) {
-    let mut reaches = [0u16; 1025];
-    table::set_length(&mut reaches, 64);
-    table::set_length(bounds, 64);
-    let entries = table::length(query) / 4;
-    let mut e = 0;
-    while e < entries {
-        let f = evaluator::entry_of(table::numbers(query), e);
-        let bound = bound_of(f, &reaches, bounds);
-        let reach = reach_of(f, &reaches);
-        table::put(bounds, e, bound);
-        table::put(&mut reaches, e, reach);
-        e += 1;
+// What an operand has, if there is one.
+fn of_operand(reaches: &[Reach; 64], operand: Option<usize>) -> Reach {
+    match operand {
+        Some(e) => {
+            if e < 64 { reaches[e] } else { NONE }
+        }
+        None => NONE,
     }
 }
 
-// What the last entry of a query has in a list.
-fn of_last(query: &table::Table, list: &table::Table) -> usize {
-    table::at(table::numbers(list), table::last(query))
+fn of_entry(f: Entry, reaches: &[Reach; 64]) -> Reach {
+    let left = of_operand(reaches, f.left_operand());
+    let right = of_operand(reaches, f.right_operand());
+    let bound = left.bound.max(right.bound);
+    Reach {
+        all: match f.kind {
+            Kind::Variable | Kind::Is => f.left.wrapping_add(1),
+            _ => left.all.max(right.all),
+        },
+        bound: match f.kind {
+            Kind::Not => left.all,
+            Kind::Except => bound.max(right.all),
+            _ => bound,
+        },
+    }
 }
 
 // How many of the first variables must have a node, before a block can be left out.
-fn bound(query: &table::Table) -> usize {
-    let mut bounds = [0u16; 1025];
-    fill(query, &mut bounds);
-    of_last(query, &bounds)
+fn bound(query: &Query) -> usize {
+    let mut reaches = [NONE; 64];
+    let mut last = NONE;
+    for e in 0..query.entries() {
+        last = of_entry(query.entry(e), &reaches);
+        if e < 64 {
+            reaches[e] = last;
+        }
+    }
+    last.bound
 }
 
 // No row of a block is an answer: so many, from a row on.
-fn is_empty(marks: &table::Cells, start: usize, size: usize) -> bool {
-    let mut i = 0;
-    while i < size {
-        if listing::is_marked(marks, std::num::wrapping_add_usize(start, i)) {
-            return false;
-        }
-        i += 1;
-    }
-    true
+fn is_empty(marks: &Cells, start: usize, size: usize) -> bool {
+    !(0..size).any(|i| is_marked(marks, start.wrapping_add(i)))
 }
 
 // Block i of so many rows is empty, and the n blocks of which it is one are not. The block of all rows is one of no others.
-fn is_left_out(marks: &table::Cells, s: listing::Space, size: usize, i: usize) -> bool {
+fn is_left_out(marks: &Cells, s: Space, size: usize, i: usize) -> bool {
     let n = s.n;
-    let empty = is_empty(marks, table::times(i, size), size);
-    if n == 0 {
-        return empty;
+    if !is_empty(marks, i.wrapping_mul(size), size) {
+        return false;
     }
-    if size == s.count {
-        return empty;
+    if (n == 0) || (size == s.count) {
+        return true;
     }
-    let around = table::times(size, n);
-    let start = table::times(i / n, around);
-    empty & !is_empty(marks, start, around)
+    let around = size.wrapping_mul(n);
+    !is_empty(marks, (i / n).wrapping_mul(around), around)
 }
 
 // Some block of so many rows is left out.
-fn is_some_left_out(marks: &table::Cells, s: listing::Space, size: usize) -> bool {
+fn is_some_left_out(marks: &Cells, s: Space, size: usize) -> bool {
     if size == 0 {
         return false;
     }
-    let mut i = s.count / size;
-    while 0 < i {
-        i -= 1;
-        if is_left_out(marks, s, size, i) {
-            return true;
-        }
-    }
-    false
+    (0..s.count / size).any(|i| is_left_out(marks, s, size, i))
 }
 
 // How many rows begin with the same nodes for so many variables.
-fn rows_after(s: listing::Space, variables: usize) -> usize {
+fn rows_after(s: Space, variables: usize) -> usize {
     let n = s.n;
     if n == 0 {
         return 0;
     }
     let mut rows = s.count;
-    let mut i = 0;
-    while i < variables {
-        rows = rows / n;
-        i += 1;
+    for _ in 0..variables {
+        rows /= n;
     }
     rows
 }
 
 // Counts a list of answers where a block is left out after so many variables: fewer than there are, and no fewer than must have a node.
-fn count_after(
-    tally: &mut tally::Tally,
-    query: &table::Table,
-    marks: &table::Cells,
-    s: listing::Space,
-    variables: usize,
-) {
-    if (s.columns <= variables) | (variables < bound(query)) {
-        return;
+pub fn count(tally: &mut Tally, query: &Query, marks: &Cells, a: Answers) {
+    let s = a.space;
+    let least = bound(query);
+    for (variables, sum) in [Sum::Blocks, Sum::BlocksAfterOne, Sum::BlocksAfterTwo]
+        .iter()
+        .enumerate()
+    {
+        if (variables < s.columns) && (least <= variables) {
+            tally.count(*sum, is_some_left_out(marks, s, rows_after(s, variables)));
+        }
     }
-    let some = is_some_left_out(marks, s, rows_after(s, variables));
-    tally::add_block(tally, variables, some as u64);
-}
-
-// After none, after one and after two.
-pub fn count(
-    tally: &mut tally::Tally,
-    query: &table::Table,
-    marks: &table::Cells,
-    a: listing::Answers,
-) {
-    count_after(tally, query, marks, a.space, 0);
-    count_after(tally, query, marks, a.space, 1);
-    count_after(tally, query, marks, a.space, 2);
 }

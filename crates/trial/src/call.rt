@@ -1,40 +1,50 @@
 // Calls of an evaluation, each with a buffer that is filled with a pattern: the reply is compared with the one that is due, the
 // count of an image too, and the buffer afterwards with the bytes that are due.
 use super::bit_pairs;
-use harness::{line, shared, table, tally};
+use harness::line::Line;
+use harness::shared::Shared;
+use harness::table::{Cells, Set, Table, front, narrow};
+use harness::tally::Tally;
+use model::{ImageReply, Reply};
+use reference::query::Query;
 
-// The services, by the letter of their lines.
-pub const FORWARDS: u8 = b'f';
-
-pub const BACKWARDS: u8 = b'b';
-
-pub const PAIRS: u8 = b'p';
-
-// All pairs by the engine over sets, which no service and no line asks for.
-const ROWS: u8 = b'R';
+// The services; and all pairs by the engine over sets, which no service and no line asks for.
+#[derive(Clone, Copy, PartialEq, Eq)]
+pub enum Service {
+    Forwards,
+    Backwards,
+    Pairs,
+    PairsByRows,
+}
 
 // What fills a buffer before a call: no byte that a service writes.
 pub const PATTERN: u8 = 7;
 
-// A call: what is lent beside the tables and the party (the number of variables, how much of the set and how much of the buffer), and
-// the reply that is due; the count where the result is a set.
+// What every evaluation is lent: a shared table with the party that asks, a query, and the node of each variable.
+#[derive(Clone, Copy)]
+pub struct Lent<'a> {
+    pub shared: &'a Shared,
+    pub query: &'a Query,
+    pub nodes: &'a Table,
+}
+
+// A call: what is lent beside that (the number of variables, how much of the set and how much of the buffer), and the reply that is due;
+// its count where the result is a set.
 #[derive(Clone, Copy)]
 pub struct Call {
-    pub service: u8,
+    pub service: Service,
     pub columns: usize,
     pub set: usize,
     pub room: usize,
-    pub number: usize,
-    pub place: usize,
-    pub count: usize,
+    pub due: ImageReply,
 }
 
-// A reply that no service gives.
-pub fn no_reply() -> model::ImageReply {
-    model::ImageReply {
-        number: 65535,
-        place: 65535,
-        count: 65535,
+// The reply to an accepted call with a count.
+pub fn counting(count: usize) -> ImageReply {
+    ImageReply {
+        number: 0,
+        place: 0,
+        count,
     }
 }
 
@@ -46,7 +56,7 @@ fn pairs_by_rows(
     columns: usize,
     nodes: &[u16],
     to: &mut [u8],
-) -> model::Reply {
+) -> Reply {
     let mut table = [0u16; 512];
     let sight = view::look(tree, party, &mut table);
     let v = sight.reply;
@@ -58,162 +68,93 @@ fn pairs_by_rows(
 }
 
 // The reply of the service; pairs has no count.
-fn serve(
-    c: Call,
-    tree: &[u16],
-    party: u16,
-    query: &[u16],
-    nodes: &[u16],
-    set: &[u8],
-    to: &mut [u8],
-) -> model::ImageReply {
-    if c.service == FORWARDS {
-        return parties::forwards(tree, party, query, c.columns, nodes, set, to);
+fn serve(c: Call, lent: Lent, set: &[u8], to: &mut [u8]) -> ImageReply {
+    let t = lent.shared.numbers();
+    let party = lent.shared.party();
+    let q = lent.query.numbers();
+    let k = lent.nodes.numbers();
+    match c.service {
+        Service::Forwards => parties::forwards(t, party, q, c.columns, k, set, to),
+        Service::Backwards => parties::backwards(t, party, q, c.columns, k, set, to),
+        Service::Pairs => model::image_reply(parties::pairs(t, party, q, c.columns, k, to), 0),
+        Service::PairsByRows => {
+            model::image_reply(pairs_by_rows(t, party, q, c.columns, k, to), 0)
+        }
     }
-    if c.service == BACKWARDS {
-        return parties::backwards(tree, party, query, c.columns, nodes, set, to);
-    }
-    if c.service == ROWS {
-        return model::image_reply(pairs_by_rows(tree, party, query, c.columns, nodes, to), 0);
-    }
-    model::image_reply(parties::pairs(tree, party, query, c.columns, nodes, to), 0)
 }
 
-// Lends the fronts of the set and of the buffer.
-fn lend(
-    c: Call,
-    shared: &shared::Shared,
-    query: &[u16],
-    nodes: &[u16],
-    set: &[u8],
-    to: &mut [u8],
-) -> model::ImageReply {
-    let length = c.set;
-    let room = c.room;
-    if set.len() < length {
-        return no_reply();
-    }
-    if to.len() < room {
-        return no_reply();
-    }
-    let t = shared::numbers(shared);
-    let party = shared::party(shared);
-    serve(c, t, party, query, nodes, &set[0..length], &mut to[0..room])
-}
-
-// The count of a call whose result is a set.
-fn expect_count(tally: &mut tally::Tally, c: Call, count: usize) {
-    if (c.service == PAIRS) | (c.service == ROWS) {
-        return;
-    }
-    tally::expect(tally, count == c.count);
-}
-
-fn compare(
-    tally: &mut tally::Tally,
-    c: Call,
-    shared: &shared::Shared,
-    query: &table::Table,
-    nodes: &table::Table,
-    set: &[u8],
-    to: &mut [u8],
-    due: &[u8],
-) {
-    let q = table::numbers(query);
-    let k = table::numbers(nodes);
-    let got = lend(c, shared, q, k, set, to);
-    let number = model::Reply {
+// A call with the fronts of a set and of a buffer.
+fn compare(tally: &mut Tally, c: Call, lent: Lent, set: &[u8], to: &mut [u8], due: &[u8]) {
+    let end = c.room.min(to.len());
+    let got = serve(c, lent, front(set, c.set), &mut to[..end]);
+    let reply = Reply {
         number: got.number,
         place: got.place,
     };
-    tally::expect_reply(tally, number, c.number, c.place);
-    expect_count(tally, c, got.count);
-    tally::expect_bytes(tally, to, due, c.room);
+    tally.expect_reply(reply, usize::from(c.due.number), usize::from(c.due.place));
+    match c.service {
+        Service::Forwards | Service::Backwards => tally.expect(got.count == c.due.count),
+        _ => (),
+    }
+    tally.expect_bytes(to, due, c.room);
 }
 
 // A call on a buffer for a set.
-pub fn compare_set(
-    tally: &mut tally::Tally,
-    c: Call,
-    shared: &shared::Shared,
-    query: &table::Table,
-    nodes: &table::Table,
-    set: &table::Set,
-    due: &table::Set,
-) {
+pub fn compare_set(tally: &mut Tally, c: Call, lent: Lent, set: &Set, due: &Set) {
     let mut to = [PATTERN; 512];
-    compare(tally, c, shared, query, nodes, set, &mut to, due);
+    compare(tally, c, lent, set, &mut to, due);
 }
 
 // The same call, by the engine over sets.
 fn by_rows(c: Call) -> Call {
     Call {
-        service: ROWS,
-        columns: c.columns,
-        set: c.set,
-        room: c.room,
-        number: c.number,
-        place: c.place,
-        count: c.count,
+        service: Service::PairsByRows,
+        ..c
     }
 }
 
 // A call on a buffer for a table of pairs.
-pub fn compare_pairs(
-    tally: &mut tally::Tally,
-    c: Call,
-    shared: &shared::Shared,
-    query: &table::Table,
-    nodes: &table::Table,
-    due: &table::Cells,
-) {
+pub fn compare_pairs(tally: &mut Tally, c: Call, lent: Lent, due: &Cells) {
     let mut to = [PATTERN; 66560];
-    compare(tally, c, shared, query, nodes, b"", &mut to, due);
+    compare(tally, c, lent, b"", &mut to, due);
 }
 
 // The same by both engines.
-pub fn compare_engines(
-    tally: &mut tally::Tally,
-    c: Call,
-    shared: &shared::Shared,
-    query: &table::Table,
-    nodes: &table::Table,
-    due: &table::Cells,
-) {
-    compare_pairs(tally, c, shared, query, nodes, due);
-    compare_pairs(tally, by_rows(c), shared, query, nodes, due);
+pub fn compare_engines(tally: &mut Tally, c: Call, lent: Lent, due: &Cells) {
+    compare_pairs(tally, c, lent, due);
+    compare_pairs(tally, by_rows(c), lent, due);
 }
 
 // A line of the input: SERVICE NUMBER PLACE COUNT | COLUMNS ROOM | NODES | SET | BYTES, where BYTES are due at the buffer's front;
 // pairs has no COUNT, comes again by the engine over sets, and where it is accepted as bits too.
-pub fn run(
-    tally: &mut tally::Tally,
-    shared: &shared::Shared,
-    query: &table::Table,
-    line: &line::Line,
-    service: u8,
-) {
-    let mut nodes = [0u16; 1025];
+pub fn run(tally: &mut Tally, shared: &Shared, query: &Query, line: &Line, service: Service) {
+    let nodes = line.table(2);
     let mut set = [0u8; 512];
     let mut due = [PATTERN; 512];
-    line::copy(line, 2, &mut nodes);
-    line::copy_bytes(line, 3, &mut set);
-    line::copy_bytes(line, 4, &mut due);
-    let c = Call {
-        service: service,
-        columns: line::number(line, 1, 0),
-        set: line::length(line, 3),
-        room: line::number(line, 1, 1),
-        number: line::number(line, 0, 0),
-        place: line::number(line, 0, 1),
-        count: line::number(line, 0, 2),
+    line.copy_bytes(3, &mut set);
+    line.copy_bytes(4, &mut due);
+    let lent = Lent {
+        shared,
+        query,
+        nodes: &nodes,
     };
-    compare_set(tally, c, shared, query, &nodes, &set, &due);
-    if service != PAIRS {
+    let c = Call {
+        service,
+        columns: line.number(1, 0),
+        set: line.length(3),
+        room: line.number(1, 1),
+        due: ImageReply {
+            number: narrow(line.number(0, 0)),
+            place: narrow(line.number(0, 1)),
+            count: line.number(0, 2),
+        },
+    };
+    compare_set(tally, c, lent, &set, &due);
+    if service != Service::Pairs {
         return;
     }
-    compare_set(tally, by_rows(c), shared, query, &nodes, &set, &due);
-    if c.number == 0 {
-        bit_pairs::run(tally, shared, query, &nodes, line);
+    compare_set(tally, by_rows(c), lent, &set, &due);
+    if c.due.number == 0 {
+        bit_pairs::run(tally, lent, line);
     }
 }

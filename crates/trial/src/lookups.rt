@@ -1,7 +1,11 @@
 // Searches by an index: each call is compared with the reply and the count that are due, and the buffer with the bytes that are
 // due.
 use super::call;
-use harness::{line, shared, table, tally};
+use harness::line::Line;
+use harness::shared::Shared;
+use harness::table::{Set, Table, narrow};
+use harness::tally::Tally;
+use model::{ImageReply, Reply};
 
 // A call: where it starts, the tag, the bytes that there is room for, and the reply that is due.
 #[derive(Clone, Copy)]
@@ -9,60 +13,43 @@ pub struct Call {
     pub start: usize,
     pub tag: usize,
     pub room: usize,
-    pub due: model::ImageReply,
+    pub due: ImageReply,
 }
 
-// Lends the front of the buffer.
-fn lend(shared: &shared::Shared, next: &[u16], c: Call, to: &mut [u8]) -> model::ImageReply {
-    let room = c.room;
-    let start = table::narrow(c.start);
-    let tag = table::narrow(c.tag);
-    if to.len() < room {
-        return call::no_reply();
-    }
-    let t = shared::numbers(shared);
-    let party = shared::party(shared);
-    parties::descendants(t, party, next, start, tag, &mut to[0..room])
-}
-
-pub fn compare(
-    tally: &mut tally::Tally,
-    shared: &shared::Shared,
-    next: &table::Table,
-    c: Call,
-    due: &table::Set,
-) {
+pub fn compare(tally: &mut Tally, shared: &Shared, next: &Table, c: Call, due: &Set) {
     let mut to = [call::PATTERN; 512];
-    let got = lend(shared, table::numbers(next), c, &mut to);
-    let number = model::Reply {
+    let t = shared.numbers();
+    let end = c.room.min(512);
+    let got = parties::descendants(
+        t,
+        shared.party(),
+        next.numbers(),
+        narrow(c.start),
+        narrow(c.tag),
+        &mut to[..end],
+    );
+    let reply = Reply {
         number: got.number,
         place: got.place,
     };
-    let reply = c.due;
-    tally::expect_reply(
-        tally,
-        number,
-        model::wide(reply.number),
-        model::wide(reply.place),
-    );
-    tally::expect(tally, got.count == reply.count);
-    tally::expect_bytes(tally, &to, due, c.room);
+    tally.expect_reply(reply, usize::from(c.due.number), usize::from(c.due.place));
+    tally.expect(got.count == c.due.count);
+    tally.expect_bytes(&to, due, c.room);
 }
 
 // descendants NUMBER PLACE COUNT | START TAG ROOM | NEXT | BYTES
-pub fn run(tally: &mut tally::Tally, shared: &shared::Shared, line: &line::Line) {
-    let mut next = [0u16; 1025];
+pub fn run(tally: &mut Tally, shared: &Shared, line: &Line) {
+    let next = line.table(2);
     let mut due = [call::PATTERN; 512];
-    line::copy(line, 2, &mut next);
-    line::copy_bytes(line, 3, &mut due);
+    line.copy_bytes(3, &mut due);
     let c = Call {
-        start: line::number(line, 1, 0),
-        tag: line::number(line, 1, 1),
-        room: line::number(line, 1, 2),
-        due: model::ImageReply {
-            number: table::narrow(line::number(line, 0, 0)),
-            place: table::narrow(line::number(line, 0, 1)),
-            count: line::number(line, 0, 2),
+        start: line.number(1, 0),
+        tag: line.number(1, 1),
+        room: line.number(1, 2),
+        due: ImageReply {
+            number: narrow(line.number(0, 0)),
+            place: narrow(line.number(0, 1)),
+            count: line.number(0, 2),
         },
     };
     compare(tally, shared, &next, c, &due);

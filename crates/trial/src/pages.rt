@@ -1,29 +1,57 @@
 // Pages: each call is compared with the reply, the rows and the cursor that are due, and the buffer beyond the rows with
 // what it held; a quick page also with the evaluations that are due, and with the most that document 02 allows.
-use harness::{line, shared, table, tally};
+use harness::line::Line;
+use harness::shared::Shared;
+use harness::table::{Rows, narrow};
+use harness::tally::{Sum, Tally};
+use model::{Cursor, QuickReply, Refusal, Reply};
+use reference::query::Query;
 use reference::{rule, seeing};
 
 // What fills a buffer before a call: no node's number, and no tag in the trees of which the seen part is asked for.
 pub const PATTERN: u16 = 7777;
 
 // The ways in which a page is asked for: row by row, and variable by variable.
-pub const PLAIN: u8 = 0;
+#[derive(Clone, Copy, PartialEq, Eq)]
+pub enum Way {
+    Plain,
+    Quick,
+}
 
-pub const QUICK: u8 = 1;
+// What a page is asked of: a shared table with the party that asks, and a query.
+#[derive(Clone, Copy)]
+pub struct Tables<'a> {
+    pub shared: &'a Shared,
+    pub query: &'a Query,
+}
 
 // A call by a party that sees n nodes, and the reply that is due; only a quick page tells its evaluations.
 #[derive(Clone, Copy)]
 pub struct Call {
-    pub way: u8,
     pub n: usize,
     pub columns: usize,
     pub room: usize,
-    pub due: model::QuickReply,
+    pub cursor: Cursor,
+    pub due: QuickReply,
+}
+
+// What is due after a call: the rows in the buffer, and the cursor.
+#[derive(Clone, Copy)]
+pub struct After<'a> {
+    pub rows: &'a Rows,
+    pub cursor: Cursor,
+}
+
+// A page that was told, and the cursor after it.
+#[derive(Clone, Copy)]
+struct Told {
+    reply: QuickReply,
+    cursor: Cursor,
 }
 
 // The reply that is due to a refused call.
-pub fn refusal(reply: model::Reply) -> model::QuickReply {
-    model::QuickReply {
+pub fn refusal(reply: Reply) -> QuickReply {
+    QuickReply {
         number: reply.number,
         place: reply.place,
         count: 0,
@@ -32,207 +60,126 @@ pub fn refusal(reply: model::Reply) -> model::QuickReply {
     }
 }
 
-// A page that does not tell its evaluations.
-fn untold(p: answers::Paged) -> quick::Quick {
+// A page row by row, which does not tell its evaluations.
+fn serve_plain(c: Call, tables: Tables, rows: &mut [u16]) -> Told {
+    let t = tables.shared.numbers();
+    let party = tables.shared.party();
+    let p = parties::page_from(t, party, tables.query.numbers(), c.columns, c.cursor, rows);
     let page = p.reply;
-    let last = p.cursor;
-    quick::Quick {
-        reply: model::QuickReply {
+    Told {
+        reply: QuickReply {
             number: page.number,
             place: page.place,
             count: page.count,
             more: page.more,
             evaluations: 0,
         },
-        cursor: last,
+        cursor: p.cursor,
     }
 }
 
-// The cursor goes by value, since a function that lends a struct is proved by hand; the tests of the C boundary lend it.
-fn serve(
-    c: Call,
-    shared: &shared::Shared,
-    query: &[u16],
-    cursor: model::Cursor,
-    rows: &mut [u16],
-) -> quick::Quick {
-    let t = shared::numbers(shared);
-    let party = shared::party(shared);
-    if c.way == QUICK {
-        return parties::quick_page_from(t, party, query, c.columns, cursor, rows);
+fn serve_quick(c: Call, tables: Tables, rows: &mut [u16]) -> Told {
+    let t = tables.shared.numbers();
+    let party = tables.shared.party();
+    let p = parties::quick_page_from(t, party, tables.query.numbers(), c.columns, c.cursor, rows);
+    Told {
+        reply: p.reply,
+        cursor: p.cursor,
     }
-    untold(parties::page_from(t, party, query, c.columns, cursor, rows))
-}
-
-// Lends the front of the buffer.
-fn lend(
-    c: Call,
-    shared: &shared::Shared,
-    query: &[u16],
-    cursor: model::Cursor,
-    rows: &mut [u16],
-) -> quick::Quick {
-    let room = c.room;
-    if rows.len() < room {
-        return serve(c, shared, query, cursor, rows);
-    }
-    serve(c, shared, query, cursor, &mut rows[0..room])
 }
 
 // The evaluations of a quick page: as many as are due, and at most 6 × n for each row written and as many for `more`.
-fn expect_evaluations(tally: &mut tally::Tally, c: Call, evaluations: usize) {
-    if c.way != QUICK {
-        return;
-    }
-    let due = c.due;
-    let searches = std::num::wrapping_add_usize(due.count, 1);
-    let most = table::times(table::times(6, c.n), searches);
-    tally::expect(tally, evaluations == due.evaluations);
-    tally::expect(tally, evaluations <= most);
-    tally::add(tally, tally::EVALUATIONS, evaluations as u64);
+fn expect_evaluations(tally: &mut Tally, c: Call, evaluations: usize) {
+    let searches = c.due.count.wrapping_add(1);
+    let most = c.n.wrapping_mul(6).wrapping_mul(searches);
+    tally.expect(evaluations == c.due.evaluations);
+    tally.expect(evaluations <= most);
+    tally.add(Sum::Evaluations, evaluations as u64);
 }
 
 // One call; answers the cursor after it.
-fn compare(
-    tally: &mut tally::Tally,
-    shared: &shared::Shared,
-    query: &table::Table,
-    c: Call,
-    cursor: model::Cursor,
-    due: &table::Rows,
-    after: model::Cursor,
-) -> model::Cursor {
+fn compare(tally: &mut Tally, way: Way, tables: Tables, c: Call, after: After) -> Cursor {
     let mut rows = [PATTERN; 1024];
-    let q = table::numbers(query);
-    let got = lend(c, shared, q, cursor, &mut rows);
-    let reply = got.reply;
-    let number = model::Reply {
-        number: reply.number,
-        place: reply.place,
+    let end = c.room.min(1024);
+    let told = match way {
+        Way::Plain => serve_plain(c, tables, &mut rows[..end]),
+        Way::Quick => serve_quick(c, tables, &mut rows[..end]),
     };
-    let wanted = c.due;
-    tally::expect_reply(
-        tally,
-        number,
-        model::wide(wanted.number),
-        model::wide(wanted.place),
-    );
-    tally::expect(
-        tally,
-        (reply.count == wanted.count) & (reply.more == wanted.more),
-    );
-    tally::expect_rows(tally, &rows, due);
-    tally::expect_cursor(tally, got.cursor, after);
-    expect_evaluations(tally, c, reply.evaluations);
-    got.cursor
-}
-
-// The same call in another way.
-fn by(way: u8, c: Call) -> Call {
-    let due = c.due;
-    Call {
-        way: way,
-        n: c.n,
-        columns: c.columns,
-        room: c.room,
-        due: due,
+    let got = told.reply;
+    let reply = Reply {
+        number: got.number,
+        place: got.place,
+    };
+    tally.expect_reply(reply, usize::from(c.due.number), usize::from(c.due.place));
+    tally.expect((got.count == c.due.count) & (got.more == c.due.more));
+    tally.expect_rows(&rows, after.rows);
+    tally.expect_cursor(told.cursor, after.cursor);
+    if way == Way::Quick {
+        expect_evaluations(tally, c, got.evaluations);
     }
+    told.cursor
 }
 
 // A quick page that is refused; it leaves the cursor and the buffer as they were.
 pub fn refuse_quick(
-    tally: &mut tally::Tally,
-    shared: &shared::Shared,
-    query: &table::Table,
+    tally: &mut Tally,
+    tables: Tables,
     columns: usize,
     room: usize,
-    cursor: model::Cursor,
-    reply: model::Reply,
+    cursor: Cursor,
+    due: Refusal,
 ) {
-    let due = [PATTERN; 1024];
     let c = Call {
-        way: QUICK,
         n: 0,
-        columns: columns,
-        room: room,
-        due: refusal(reply),
+        columns,
+        room,
+        cursor,
+        due: refusal(Reply::from(due)),
     };
-    compare(tally, shared, query, c, cursor, &due, cursor);
+    let after = After {
+        rows: &[PATTERN; 1024],
+        cursor,
+    };
+    compare(tally, Way::Quick, tables, c, after);
 }
 
 // The same page asked for in each way; a quick one is refused where the query breaks the rule. Answers the cursor after the plain
 // page or, where the room is odd, after the quick one, so that they go on from each other.
-pub fn compare_ways(
-    tally: &mut tally::Tally,
-    shared: &shared::Shared,
-    query: &table::Table,
-    c: Call,
-    cursor: model::Cursor,
-    due: &table::Rows,
-    after: model::Cursor,
-) -> model::Cursor {
-    let plain = compare(tally, shared, query, by(PLAIN, c), cursor, due, after);
-    let same = model::Reply {
+pub fn compare_ways(tally: &mut Tally, tables: Tables, c: Call, after: After) -> Cursor {
+    let plain = compare(tally, Way::Plain, tables, c, after);
+    let due = Reply {
         number: c.due.number,
         place: c.due.place,
     };
-    let reply = rule::reply_for(query, same);
-    if reply.number == 29 {
-        refuse_quick(tally, shared, query, c.columns, c.room, cursor, reply);
+    if let Some(refusal) = rule::refusal_for(tables.query, due) {
+        refuse_quick(tally, tables, c.columns, c.room, c.cursor, refusal);
         return plain;
     }
-    let quick = compare(tally, shared, query, by(QUICK, c), cursor, due, after);
-    if c.room % 2 == 0 {
-        return plain;
-    }
-    quick
+    let quick = compare(tally, Way::Quick, tables, c, after);
+    if c.room % 2 == 0 { plain } else { quick }
 }
 
 // A line of the input: NUMBER PLACE COUNT MORE EVALUATIONS | COLUMNS ROOM | CURSOR | ROWS | CURSOR AFTER, where a page that is not
 // quick has no EVALUATIONS.
-fn run(
-    tally: &mut tally::Tally,
-    shared: &shared::Shared,
-    query: &table::Table,
-    line: &line::Line,
-    way: u8,
-) {
-    let mut due = [PATTERN; 1024];
-    line::copy_rows(line, 3, &mut due);
+pub fn run(tally: &mut Tally, tables: Tables, line: &Line, way: Way) {
+    let mut rows = [PATTERN; 1024];
+    line.copy_numbers(3, &mut rows);
     let c = Call {
-        way: way,
-        n: seeing::size(shared),
-        columns: line::number(line, 1, 0),
-        room: line::number(line, 1, 1),
-        due: model::QuickReply {
-            number: table::narrow(line::number(line, 0, 0)),
-            place: table::narrow(line::number(line, 0, 1)),
-            count: line::number(line, 0, 2),
-            more: line::number(line, 0, 3) != 0,
-            evaluations: line::number(line, 0, 4),
+        n: seeing::size(tables.shared),
+        columns: line.number(1, 0),
+        room: line.number(1, 1),
+        cursor: line.cursor(2),
+        due: QuickReply {
+            number: narrow(line.number(0, 0)),
+            place: narrow(line.number(0, 1)),
+            count: line.number(0, 2),
+            more: line.number(0, 3) != 0,
+            evaluations: line.number(0, 4),
         },
     };
-    let cursor = line::cursor(line, 2);
-    let after = line::cursor(line, 4);
-    compare(tally, shared, query, c, cursor, &due, after);
-}
-
-// answers: a page.
-pub fn run_answers(
-    tally: &mut tally::Tally,
-    shared: &shared::Shared,
-    query: &table::Table,
-    line: &line::Line,
-) {
-    run(tally, shared, query, line, PLAIN);
-}
-
-// effort: a quick page.
-pub fn run_effort(
-    tally: &mut tally::Tally,
-    shared: &shared::Shared,
-    query: &table::Table,
-    line: &line::Line,
-) {
-    run(tally, shared, query, line, QUICK);
+    let after = After {
+        rows: &rows,
+        cursor: line.cursor(4),
+    };
+    compare(tally, way, tables, c, after);
 }

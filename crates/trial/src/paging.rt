@@ -1,255 +1,198 @@
 // The answers of random queries, page by page, each page both ways. The room changes from call to call, refused calls come
 // between, and the cursor is changed where a page does not read it.
-use super::{blocks, pages, sparse};
-use harness::{line, shared, table, tally};
-use reference::{damage, effort, evaluator, listing, owning, random, seeing, steer};
+use super::pages::{self, After, Call, PATTERN, Tables};
+use super::{blocks, sparse};
+use harness::line::Line;
+use harness::shared::Shared;
+use harness::table::Cells;
+use harness::tally::{Sum, Tally};
+use model::{Cursor, QuickReply, Reply};
+use reference::evaluator::Pairs;
+use reference::listing::{Answers, due_page};
+use reference::random::Seed;
+use reference::steer::{self, Listed};
+use reference::{damage, effort, owning, seeing};
 
 // Where paging stands: the cursor, the row from which it goes on, and whether there is more.
 #[derive(Clone, Copy)]
 pub struct Position {
-    pub cursor: model::Cursor,
+    pub cursor: Cursor,
     pub next: usize,
     pub more: bool,
 }
 
-// A call that is refused; it leaves the cursor and the buffer as they were.
-fn refuse(
-    tally: &mut tally::Tally,
-    seed: &mut u64,
-    shared: &shared::Shared,
-    query: &table::Table,
-    s: listing::Space,
-    cursor: model::Cursor,
-) {
-    let due = [pages::PATTERN; 1024];
-    let mut other = *shared;
-    let mut other_query = *query;
-    let f = damage::put(seed, &mut other, &mut other_query, s, cursor);
-    let lent = f.cursor;
-    let reply = f.reply;
-    let c = pages::Call {
-        way: pages::PLAIN,
-        n: s.n,
-        columns: f.columns,
-        room: f.room,
-        due: pages::refusal(reply),
-    };
-    tally::add(tally, tally::REFUSED, 1);
-    pages::compare_ways(tally, &other, &other_query, c, lent, &due, lent);
-}
-
-// The row after which a page comes; the number of rows where the cursor is fresh.
-fn row_before(s: listing::Space, cursor: model::Cursor, start: usize) -> usize {
-    if cursor.begun == 0 {
-        return s.count;
-    }
-    std::num::wrapping_sub_usize(start, 1)
-}
-
-// One page, from a row on, with room for so many numbers.
-fn turn(
-    tally: &mut tally::Tally,
-    shared: &shared::Shared,
-    query: &table::Table,
-    marks: &table::Cells,
-    s: listing::Space,
-    room: usize,
-    cursor: model::Cursor,
-    start: usize,
-) -> Position {
-    let mut due = [pages::PATTERN; 1024];
-    let p = listing::due_page(marks, s, start, room, &mut due);
-    tally::add(tally, tally::PAGES, 1);
-    tally::add(tally, tally::ROWS, p.count as u64);
-    let c = pages::Call {
-        way: pages::PLAIN,
-        n: s.n,
-        columns: s.columns,
-        room: room,
-        due: model::QuickReply {
-            number: 0,
-            place: 0,
-            count: p.count,
-            more: p.more,
-            evaluations: effort::of_page(marks, s, row_before(s, cursor, start), p.count),
-        },
-    };
-    let after = listing::moved(s, cursor, p);
-    let moved = pages::compare_ways(tally, shared, query, c, cursor, &due, after);
-    Position {
-        cursor: moved,
-        next: p.next,
-        more: p.more,
-    }
-}
-
-// Room for one row, for two, for `most`, or for any number up to that; and for a part of one more.
-fn room_for(seed: &mut u64, s: listing::Space, most: usize) -> usize {
-    let part = random::below(seed, s.columns);
-    let form = random::below(seed, 4);
-    let mut rows = std::num::wrapping_add_usize(form, 1);
-    if form == 2 {
-        rows = most;
-    }
-    if form == 3 {
-        rows = random::between(seed, 1, most);
-    }
-    std::num::wrapping_add_usize(table::times(rows, s.columns), part)
-}
-
-// Two calls that are refused, and a page.
-fn step(
-    tally: &mut tally::Tally,
-    seed: &mut u64,
-    shared: &shared::Shared,
-    query: &table::Table,
-    marks: &table::Cells,
-    s: listing::Space,
-    most: usize,
-    at: Position,
-) -> Position {
-    refuse(tally, seed, shared, query, s, at.cursor);
-    refuse(tally, seed, shared, query, s, at.cursor);
-    let room = room_for(seed, s, most);
-    let cursor = damage::scrambled(seed, s, at.cursor);
-    turn(tally, shared, query, marks, s, room, cursor, at.next)
-}
-
-// Pages to the end, and one after it.
-pub fn page_through(
-    tally: &mut tally::Tally,
-    seed: &mut u64,
-    shared: &shared::Shared,
-    query: &table::Table,
-    marks: &table::Cells,
-    s: listing::Space,
-    most: usize,
-    start: Position,
-) {
-    let count = s.count;
-    let mut at = start;
-    let mut i = 0;
-    while i < count {
-        let next = step(tally, seed, shared, query, marks, s, most, at);
-        at = next;
-        if !at.more {
-            step(tally, seed, shared, query, marks, s, most, at);
-            return;
-        }
-        i += 1;
-    }
-}
-
 // The start, with a fresh cursor that holds anything.
-pub fn fresh(seed: &mut u64) -> Position {
+pub fn fresh(seed: &mut Seed) -> Position {
     let any = damage::any_cursor(seed);
     Position {
-        cursor: model::Cursor {
-            begun: 0,
-            first: any.first,
-            second: any.second,
-            third: any.third,
-        },
+        cursor: Cursor { begun: 0, ..any },
         next: 0,
         more: true,
     }
 }
 
-// Pages from the start, with room for up to 1 row, 2 rows, .. and one more than there are answers.
-fn page_through_from_start(
-    tally: &mut tally::Tally,
-    seed: &mut u64,
-    shared: &shared::Shared,
-    query: &table::Table,
-    marks: &table::Cells,
-    a: listing::Answers,
-) {
-    let start = fresh(seed);
-    let end = std::num::wrapping_add_usize(a.found, 2);
-    let mut most = 1;
-    while most < end {
-        page_through(tally, seed, shared, query, marks, a.space, most, start);
-        most += 1;
+// What is paged through: the answers of a query for a party, as they are marked.
+#[derive(Clone, Copy)]
+pub struct Walk<'a> {
+    pub tables: Tables<'a>,
+    pub marks: &'a Cells,
+    pub answers: Answers,
+}
+
+impl<'a> Walk<'a> {
+    // The answers of a query over what a party sees of a shared table.
+    pub fn over(listed: &'a Listed, shared: &'a Shared, marks: &'a Cells) -> Walk<'a> {
+        Walk {
+            tables: Tables {
+                shared,
+                query: &listed.query,
+            },
+            marks,
+            answers: listed.answers,
+        }
     }
-}
 
-// Pages from any row, an answer or none.
-pub fn page_through_from_anywhere(
-    tally: &mut tally::Tally,
-    seed: &mut u64,
-    shared: &shared::Shared,
-    query: &table::Table,
-    marks: &table::Cells,
-    a: listing::Answers,
-) {
-    let s = a.space;
-    let row = random::below(seed, s.count);
-    let start = Position {
-        cursor: listing::cursor_at(s, damage::any_cursor(seed), row),
-        next: std::num::wrapping_add_usize(row, 1),
-        more: true,
-    };
-    let most = random::between(seed, 1, std::num::wrapping_add_usize(a.found, 1));
-    page_through(tally, seed, shared, query, marks, s, most, start);
-}
+    // A call that is refused; it leaves the cursor and the buffer as they were.
+    fn refuse(&self, tally: &mut Tally, seed: &mut Seed, cursor: Cursor) {
+        let s = self.answers.space;
+        let mut shared = *self.tables.shared;
+        let mut query = *self.tables.query;
+        let f = damage::put(seed, &mut shared, &mut query, s, cursor);
+        let other = Tables {
+            shared: &shared,
+            query: &query,
+        };
+        let c = Call {
+            n: s.n,
+            columns: f.columns,
+            room: f.room,
+            cursor: f.cursor,
+            due: pages::refusal(Reply::from(f.refusal)),
+        };
+        let after = After {
+            rows: &[PATTERN; 1024],
+            cursor: f.cursor,
+        };
+        tally.add(Sum::Refused, 1);
+        pages::compare_ways(tally, other, c, after);
+    }
 
-// Pages from the start and from anywhere, over the answers of a query.
-fn page_all(
-    tally: &mut tally::Tally,
-    seed: &mut u64,
-    shared: &shared::Shared,
-    query: &table::Table,
-    marks: &table::Cells,
-    a: listing::Answers,
-) {
-    page_through_from_start(tally, seed, shared, query, marks, a);
-    page_through_from_anywhere(tally, seed, shared, query, marks, a);
-    page_through_from_anywhere(tally, seed, shared, query, marks, a);
-    page_through_from_anywhere(tally, seed, shared, query, marks, a);
+    // One page, with room for so many numbers.
+    fn turn(&self, tally: &mut Tally, room: usize, at: Position) -> Position {
+        let mut due = [PATTERN; 1024];
+        let s = self.answers.space;
+        let p = due_page(self.marks, s, at.next, room, &mut due);
+        tally.add(Sum::Pages, 1);
+        tally.add(Sum::Rows, p.count as u64);
+        let before = match at.cursor.begun {
+            0 => None,
+            _ => Some(at.next.wrapping_sub(1)),
+        };
+        let c = Call {
+            n: s.n,
+            columns: s.columns,
+            room,
+            cursor: at.cursor,
+            due: QuickReply {
+                number: 0,
+                place: 0,
+                count: p.count,
+                more: p.more,
+                evaluations: effort::of_page(self.marks, s, before, p.count),
+            },
+        };
+        let after = After {
+            rows: &due,
+            cursor: s.moved(at.cursor, p),
+        };
+        Position {
+            cursor: pages::compare_ways(tally, self.tables, c, after),
+            next: p.next,
+            more: p.more,
+        }
+    }
+
+    // Room for one row, for two, for `most`, or for any number up to that; and for a part of one more.
+    fn room_for(&self, seed: &mut Seed, most: usize) -> usize {
+        let columns = self.answers.space.columns;
+        let part = seed.below(columns);
+        let rows = match seed.below(4) {
+            0 => 1,
+            1 => 2,
+            2 => most,
+            _ => seed.between(1, most),
+        };
+        rows.wrapping_mul(columns).wrapping_add(part)
+    }
+
+    // Two calls that are refused, and a page.
+    fn step(&self, tally: &mut Tally, seed: &mut Seed, most: usize, at: Position) -> Position {
+        self.refuse(tally, seed, at.cursor);
+        self.refuse(tally, seed, at.cursor);
+        let room = self.room_for(seed, most);
+        let cursor = damage::scrambled(seed, self.answers.space, at.cursor);
+        self.turn(tally, room, Position { cursor, ..at })
+    }
+
+    // Pages to the end, and one after it.
+    pub fn page_through(&self, tally: &mut Tally, seed: &mut Seed, most: usize, start: Position) {
+        let mut at = start;
+        for _ in 0..self.answers.space.count {
+            at = self.step(tally, seed, most, at);
+            if !at.more {
+                self.step(tally, seed, most, at);
+                return;
+            }
+        }
+    }
+
+    // Pages from the start, with room for up to 1 row, 2 rows, .. and one more than there are answers.
+    fn page_through_from_start(&self, tally: &mut Tally, seed: &mut Seed) {
+        let start = fresh(seed);
+        for most in 1..self.answers.found.wrapping_add(2) {
+            self.page_through(tally, seed, most, start);
+        }
+    }
+
+    // Pages from any row, an answer or none.
+    pub fn page_through_from_anywhere(&self, tally: &mut Tally, seed: &mut Seed) {
+        let s = self.answers.space;
+        let row = seed.below(s.count);
+        let start = Position {
+            cursor: s.cursor_at(damage::any_cursor(seed), row),
+            next: row.wrapping_add(1),
+            more: true,
+        };
+        let most = seed.between(1, self.answers.found.wrapping_add(1));
+        self.page_through(tally, seed, most, start);
+    }
+
+    // Pages from the start and from anywhere.
+    fn page_all(&self, tally: &mut Tally, seed: &mut Seed) {
+        self.page_through_from_start(tally, seed);
+        for _ in 0..3 {
+            self.page_through_from_anywhere(tally, seed);
+        }
+    }
 }
 
 // The shared table, the seen tree and the query that a line asks for, with the answers marked.
-fn make(
-    seed: &mut u64,
-    line: &line::Line,
-    shared: &mut shared::Shared,
-    tree: &mut table::Table,
-    query: &mut table::Table,
-    pairs: &mut evaluator::Pairs,
-    marks: &mut table::Cells,
-) -> listing::Answers {
-    if line::number(line, 3, 0) != 0 {
-        return sparse::make(seed, line, shared, tree, query, pairs, marks);
+fn make(seed: &mut Seed, line: &Line, pairs: &mut Pairs, marks: &mut Cells) -> Listed {
+    if line.number(3, 0) != 0 {
+        return sparse::make(seed, line, pairs, marks);
     }
-    steer::make(seed, line, shared, tree, query, pairs, marks, false)
+    steer::make(seed, line, pairs, marks, false)
 }
 
 // All pages over the answers of a query; and the same calls with another table of which the party sees the same tree.
-pub fn run(
-    tally: &mut tally::Tally,
-    seed: &mut u64,
-    line: &line::Line,
-    pairs: &mut evaluator::Pairs,
-) {
-    let mut shared = [0u16; 1538];
-    let mut twin = [0u16; 1538];
-    let mut tree = [0u16; 1025];
-    let mut query = [0u16; 1025];
+pub fn run(tally: &mut Tally, seed: &mut Seed, line: &Line, pairs: &mut Pairs) {
     let mut marks = [0u8; 66560];
-    let a = make(
-        seed,
-        line,
-        &mut shared,
-        &mut tree,
-        &mut query,
-        pairs,
-        &mut marks,
-    );
-    steer::count(tally, &query, a);
-    blocks::count(tally, &query, &marks, a);
-    seeing::count(tally, &shared);
-    owning::make_twin(seed, &tree, &shared, &mut twin);
+    let listed = make(seed, line, pairs, &mut marks);
+    steer::count(tally, &listed.query, listed.answers);
+    blocks::count(tally, &listed.query, &marks, listed.answers);
+    seeing::count(tally, &listed.shared);
+    let twin = owning::make_twin(seed, &listed.tree, &listed.shared);
     let mut again = *seed;
-    page_all(tally, seed, &shared, &query, &marks, a);
-    page_all(tally, &mut again, &twin, &query, &marks, a);
+    Walk::over(&listed, &listed.shared, &marks).page_all(tally, seed);
+    Walk::over(&listed, &twin, &marks).page_all(tally, &mut again);
 }

@@ -1,138 +1,129 @@
 // The checks of the input, by the first letter of their line. A check of a table also makes it the present one.
+use super::call::Service;
+use super::pages::{Tables, Way};
 use super::{
     call, compare, conversions, deep, indexes, kept, lookups, pages, paging, searches, views,
 };
-use harness::{chains, line, shared, table, tally};
-use reference::evaluator;
+use harness::chains;
+use harness::line::Line;
+use harness::shared::Shared;
+use harness::table::narrow;
+use harness::tally::{Sum, Tally};
+use model::Reply;
+use reference::query::Query;
+use reference::random::Seed;
 
-// The first part of a line says which number and place are due.
-fn expect(tally: &mut tally::Tally, line: &line::Line, got: model::Reply) {
-    tally::expect_reply(
-        tally,
-        got,
-        line::number(line, 0, 0),
-        line::number(line, 0, 1),
-    );
+// The present tables.
+#[derive(Clone, Copy)]
+struct Present {
+    shared: Shared,
+    query: Query,
 }
 
-// The check of the present shared table, which does not judge the party; where something is refused, so is the tree that is seen.
-fn expect_table(tally: &mut tally::Tally, shared: &shared::Shared, line: &line::Line) {
-    let number = line::number(line, 0, 0);
-    let place = line::number(line, 0, 1);
-    let got = ownership::check_table(shared::numbers(shared));
-    if number == 31 {
-        tally::expect_reply(tally, got, 0, 0);
-    } else {
-        tally::expect_reply(tally, got, number, place);
+// The first part of a line says which number and place are due.
+fn expect(tally: &mut Tally, line: &Line, got: Reply) {
+    tally.expect_reply(got, line.number(0, 0), line.number(0, 1));
+}
+
+// The check of a shared table, which does not judge the party; where something is refused, so is the tree that is seen.
+fn expect_table(tally: &mut Tally, shared: &Shared, line: &Line) {
+    let due = Reply {
+        number: narrow(line.number(0, 0)),
+        place: narrow(line.number(0, 1)),
+    };
+    let got = ownership::check_table(shared.numbers());
+    match due.number {
+        31 => tally.expect_reply(got, 0, 0),
+        _ => expect(tally, line, got),
     }
-    if 0 < number {
-        views::refuse(tally, shared, 512, number, place);
+    if 0 < due.number {
+        views::refuse(tally, shared, 512, due);
     }
 }
 
 // tree NUMBER PLACE | TABLE, or tree NUMBER PLACE PARTY | TABLE
-fn run_tree(tally: &mut tally::Tally, shared: &mut shared::Shared, line: &line::Line) {
-    let mut tree = [0u16; 1025];
-    if line::length(line, 0) < 3 {
-        line::copy(line, 1, &mut tree);
-        shared::make_common(&tree, shared);
-        expect_table(tally, shared, line);
-        return;
+fn tree_of(line: &Line) -> Shared {
+    if line.length(0) < 3 {
+        return Shared::common(&line.table(1));
     }
-    shared::copy(line, 1, shared);
-    shared::set_party(shared, line::number(line, 0, 2));
-    expect_table(tally, shared, line);
+    Shared::from_list(line.numbers(1), line.number(0, 2))
 }
 
-// chain NUMBER PLACE | COUNT AT VALUE
-fn run_chain(tally: &mut tally::Tally, shared: &mut shared::Shared, line: &line::Line) {
-    let mut tree = [0u16; 1025];
-    chains::make_chain(line, &mut tree);
-    shared::make_common(&tree, shared);
-    expect_table(tally, shared, line);
-}
+impl Present {
+    // A shared table becomes the present one.
+    fn take(&mut self, tally: &mut Tally, line: &Line, shared: Shared) {
+        self.shared = shared;
+        expect_table(tally, &shared, line);
+    }
 
-// query NUMBER PLACE | COLUMNS | TABLE
-fn run_query(tally: &mut tally::Tally, query: &mut table::Table, line: &line::Line) {
-    line::copy(line, 2, query);
-    let columns = line::number(line, 1, 0);
-    let got = query::check_query(table::numbers(query), columns);
-    expect(tally, line, got);
-}
+    // query NUMBER PLACE | COLUMNS | TABLE
+    fn run_query(&mut self, tally: &mut Tally, line: &Line) {
+        self.query.table = line.table(2);
+        let got = query::check_query(self.query.numbers(), line.number(1, 0));
+        expect(tally, line, got);
+    }
 
-// nested NUMBER PLACE | COUNT AT VALUE
-fn run_nested(tally: &mut tally::Tally, query: &mut table::Table, line: &line::Line) {
-    chains::make_nested(line, query);
-    expect(tally, line, query::check_query(table::numbers(query), 0));
-}
+    // nested NUMBER PLACE | COUNT AT VALUE
+    fn run_nested(&mut self, tally: &mut Tally, line: &Line) {
+        self.query.table = chains::make_nested(line);
+        expect(tally, line, query::check_query(self.query.numbers(), 0));
+    }
 
-// least NUMBER PLACE | LEAST COLUMNS | TABLE
-fn run_least(tally: &mut tally::Tally, query: &mut table::Table, line: &line::Line) {
-    line::copy(line, 2, query);
-    let least = line::number(line, 1, 0);
-    let columns = line::number(line, 1, 1);
-    let got = query::check_query_for(table::numbers(query), least, columns);
-    expect(tally, line, got);
-}
+    // least NUMBER PLACE | LEAST COLUMNS | TABLE
+    fn run_least(&mut self, tally: &mut Tally, line: &Line) {
+        self.query.table = line.table(2);
+        let least = line.number(1, 0);
+        let got = query::check_query_for(self.query.numbers(), least, line.number(1, 1));
+        expect(tally, line, got);
+    }
 
-// The lines that check a table.
-fn run_table(
-    tally: &mut tally::Tally,
-    shared: &mut shared::Shared,
-    query: &mut table::Table,
-    line: &line::Line,
-    letter: u8,
-) {
-    if letter == b't' {
-        run_tree(tally, shared, line);
-        return;
+    // The lines that call an evaluation, a page, a search or the seen tree on the present tables, for a party.
+    fn run_call_for(&self, tally: &mut Tally, shared: &Shared, line: &Line, letter: u8) {
+        let query = &self.query;
+        let tables = Tables { shared, query };
+        match letter {
+            b'f' => call::run(tally, shared, query, line, Service::Forwards),
+            b'b' => call::run(tally, shared, query, line, Service::Backwards),
+            b'p' => call::run(tally, shared, query, line, Service::Pairs),
+            b'a' => pages::run(tally, tables, line, Way::Plain),
+            b'e' => pages::run(tally, tables, line, Way::Quick),
+            b'i' => indexes::run(tally, shared, line),
+            b'd' => lookups::run(tally, shared, line),
+            b'y' => views::run(tally, shared, line),
+            _ => (),
+        }
     }
-    if letter == b'c' {
-        run_chain(tally, shared, line);
-        return;
-    }
-    if letter == b'q' {
-        run_query(tally, query, line);
-        return;
-    }
-    if letter == b'n' {
-        run_nested(tally, query, line);
-        return;
-    }
-    if letter == b'l' {
-        run_least(tally, query, line);
-    }
-}
 
-// One random shared table, with a query or an index, or one random table of pairs.
-fn run_one(
-    tally: &mut tally::Tally,
-    seed: &mut u64,
-    line: &line::Line,
-    letter: u8,
-    pairs: &mut evaluator::Pairs,
-) {
-    if letter == b'r' {
-        compare::run(tally, seed, line, pairs);
-        return;
+    // The same for the party that asks, or for each.
+    fn run_call(&self, tally: &mut Tally, line: &Line, letter: u8) {
+        if self.shared.party.is_some() {
+            self.run_call_for(tally, &self.shared, line, letter);
+            return;
+        }
+        for party in 1..3 {
+            self.run_call_for(tally, &self.shared.with_party(party), line, letter);
+        }
     }
-    if letter == b's' {
-        searches::run(tally, seed, line);
-        return;
+
+    // Runs a line.
+    fn run_line(&mut self, tally: &mut Tally, bytes: &[u8]) {
+        tally.next_line();
+        let Some(first) = bytes.first() else {
+            return;
+        };
+        let line = Line::read(bytes);
+        match *first {
+            b'=' => tally.end_part(bytes),
+            b't' => self.take(tally, &line, tree_of(&line)),
+            b'c' => self.take(tally, &line, Shared::common(&chains::make_chain(&line))),
+            b'q' => self.run_query(tally, &line),
+            b'n' => self.run_nested(tally, &line),
+            b'l' => self.run_least(tally, &line),
+            b'r' | b'w' | b's' | b'j' | b'm' | b'k' => run_random(tally, &line, *first),
+            b'g' | b'u' | b'o' | b'v' | b'h' | b'z' => expect_random(tally, &line, *first),
+            letter => self.run_call(tally, &line, letter),
+        }
     }
-    if letter == b'j' {
-        deep::run(tally, seed, line, pairs);
-        return;
-    }
-    if letter == b'm' {
-        conversions::run_random(tally, seed, line);
-        return;
-    }
-    if letter == b'k' {
-        kept::run(tally, seed, line, pairs);
-        return;
-    }
-    paging::run(tally, seed, line, pairs);
 }
 
 // random SEED COUNT | LEAST MOST ENTRIES: so many shared tables, of LEAST to MOST nodes, and queries from a seed
@@ -142,154 +133,58 @@ fn run_one(
 // joined SEED COUNT | LEAST MOST | LEAST MOST: so many trees that a party sees, of LEAST to MOST nodes, and deep queries of LEAST to MOST
 // leaves
 // matrices SEED COUNT | LEAST MOST: so many tables of the pairs of LEAST to MOST nodes
-fn run_random(tally: &mut tally::Tally, line: &line::Line, letter: u8) {
+fn run_random(tally: &mut Tally, line: &Line, letter: u8) {
     let mut pairs = [0u8; 4194304];
-    let mut seed = line::number(line, 0, 0) as u64;
-    let count = line::number(line, 0, 1);
-    let mut i = 0;
-    while i < count {
-        run_one(tally, &mut seed, line, letter, &mut pairs);
-        i += 1;
+    let mut seed = Seed::new(line.number(0, 0));
+    for _ in 0..line.number(0, 1) {
+        match letter {
+            b'r' => compare::run(tally, &mut seed, line, &mut pairs),
+            b's' => searches::run(tally, &mut seed, line),
+            b'j' => deep::run(tally, &mut seed, line, &mut pairs),
+            b'm' => conversions::run_random(tally, &mut seed, line),
+            b'k' => kept::run(tally, &mut seed, line, &mut pairs),
+            _ => paging::run(tally, &mut seed, line, &mut pairs),
+        }
     }
 }
 
-// The lines that call an evaluation, a page, a search or the seen tree on the present tables, for a party.
-fn run_call_for(
-    tally: &mut tally::Tally,
-    shared: &shared::Shared,
-    query: &table::Table,
-    line: &line::Line,
-    letter: u8,
-) {
-    if (letter == call::FORWARDS) | (letter == call::BACKWARDS) | (letter == call::PAIRS) {
-        call::run(tally, shared, query, line, letter);
-        return;
+// The lines that say how many of the random tables were of some sort, each part a share.
+fn expect_random(tally: &mut Tally, line: &Line, letter: u8) {
+    let share = line.share(0);
+    let second = line.share(1);
+    match letter {
+        b'g' => {
+            tally.expect_gaps(share);
+            tally.expect_blocks(Sum::Blocks, second);
+            tally.expect_blocks(Sum::BlocksAfterOne, line.share(2));
+            tally.expect_blocks(Sum::BlocksAfterTwo, line.share(3));
+        }
+        b'u' => tally.expect_damage(share),
+        b'o' => {
+            tally.expect_share(Sum::LeftOut, Sum::Documents, share);
+            tally.expect_share(Sum::Closing, Sum::Shared, second);
+            tally.expect_share(Sum::Meeting, Sum::Shared, line.share(2));
+        }
+        b'v' => {
+            tally.expect_share(Sum::Mixed, Sum::Deep, share);
+            tally.expect_share(Sum::Deciding, Sum::Deep, second);
+        }
+        b'h' => tally.expect_kept(share),
+        _ => {
+            tally.expect_share(Sum::Hiding, Sum::Shared, share);
+            tally.expect_share(Sum::Through, Sum::Shared, second);
+        }
     }
-    if letter == b'a' {
-        pages::run_answers(tally, shared, query, line);
-        return;
-    }
-    if letter == b'e' {
-        pages::run_effort(tally, shared, query, line);
-        return;
-    }
-    if letter == b'i' {
-        indexes::run(tally, shared, line);
-        return;
-    }
-    if letter == b'd' {
-        lookups::run(tally, shared, line);
-        return;
-    }
-    if letter == b'y' {
-        views::run(tally, shared, line);
-    }
-}
-
-// The same for the party that asks, or for each.
-fn run_call(
-    tally: &mut tally::Tally,
-    shared: &shared::Shared,
-    query: &table::Table,
-    line: &line::Line,
-    letter: u8,
-) {
-    if shared::party(shared) != shared::EACH {
-        run_call_for(tally, shared, query, line, letter);
-        return;
-    }
-    let first = shared::with_party(shared, 1);
-    let second = shared::with_party(shared, 2);
-    run_call_for(tally, &first, query, line, letter);
-    run_call_for(tally, &second, query, line, letter);
-}
-
-// A line that compares on random tables.
-fn is_random(letter: u8) -> bool {
-    (letter == b'r')
-        | (letter == b'w')
-        | (letter == b's')
-        | (letter == b'j')
-        | (letter == b'm')
-        | (letter == b'k')
-}
-
-// The shares of the lists with a block that is left out, after no variable, after one and after two.
-fn expect_blocks(tally: &mut tally::Tally, line: &line::Line) {
-    tally::expect_blocks(tally, 0, line::number(line, 1, 0), line::number(line, 1, 1));
-    tally::expect_blocks(tally, 1, line::number(line, 2, 0), line::number(line, 2, 1));
-    tally::expect_blocks(tally, 2, line::number(line, 3, 0), line::number(line, 3, 1));
-}
-
-// The lines that compare on random tables, and those that say how many of these were of some sort.
-fn run_many(tally: &mut tally::Tally, line: &line::Line, letter: u8) {
-    if is_random(letter) {
-        run_random(tally, line, letter);
-        return;
-    }
-    let some = line::number(line, 0, 0);
-    let of = line::number(line, 0, 1);
-    if letter == b'g' {
-        tally::expect_gaps(tally, some, of);
-        expect_blocks(tally, line);
-    }
-    if letter == b'u' {
-        tally::expect_damage(tally, some, of);
-    }
-    if letter == b'o' {
-        tally::expect_left_out(tally, some, of);
-        tally::expect_closing(tally, line::number(line, 1, 0), line::number(line, 1, 1));
-        tally::expect_meeting(tally, line::number(line, 2, 0), line::number(line, 2, 1));
-    }
-    if letter == b'v' {
-        tally::expect_mixed(tally, some, of);
-        tally::expect_deciding(tally, line::number(line, 1, 0), line::number(line, 1, 1));
-    }
-    if letter == b'h' {
-        tally::expect_kept(tally, some, of);
-    }
-    if letter == b'z' {
-        tally::expect_hiding(tally, some, of);
-        tally::expect_through(tally, line::number(line, 1, 0), line::number(line, 1, 1));
-    }
-}
-
-// Runs the line that starts at a place, and answers where the next one starts.
-fn run_line(
-    tally: &mut tally::Tally,
-    shared: &mut shared::Shared,
-    query: &mut table::Table,
-    text: &[u8],
-    start: usize,
-) -> usize {
-    if text.len() <= start {
-        return start;
-    }
-    let letter = text[start];
-    let mut line = [0usize; 1032];
-    let next = line::read(text, start, &mut line);
-    tally::next_line(tally);
-    if letter == b'=' {
-        tally::end_part(tally, text, start, next);
-        return next;
-    }
-    run_table(tally, shared, query, &line, letter);
-    run_call(tally, shared, query, &line, letter);
-    run_many(tally, &line, letter);
-    next
 }
 
 pub fn run_all(text: &[u8]) {
-    let mut tally = [0u64; 71];
-    let mut shared = [0u16; 1538];
-    let mut query = [0u16; 1025];
-    let mut at = 0;
-    while at < text.len() {
-        let next = run_line(&mut tally, &mut shared, &mut query, text, at);
-        if next <= at {
-            return;
-        }
-        at = next;
+    let mut tally = Tally::new();
+    let mut present = Present {
+        shared: Shared::new(),
+        query: Query::new(),
+    };
+    for bytes in text.split(|b| *b == b'\n') {
+        present.run_line(&mut tally, bytes);
     }
-    tally::show_all(&tally);
+    tally.show_all();
 }

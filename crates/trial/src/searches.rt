@@ -1,284 +1,222 @@
 // Random shared tables with the indexes of what a party sees, and searches by these and by damaged ones: compared with the reference,
 // whose index is made by looking at every node, and whose searches climb from every node.
+use super::indexes::{NEXT_PATTERN, Rooms, TAGS_PATTERN, due_of};
 use super::{call, indexes, lookups};
-use harness::{line, shared, table, tally};
-use reference::{damage, index_damage, indexing, owning, random, searching, seeing, tagging};
+use harness::line::Line;
+use harness::shared::Shared;
+use harness::table::Table;
+use harness::tally::{Sum, Tally};
+use model::{ImageReply, Refusal};
+use reference::random::Seed;
+use reference::tagging::Aim;
+use reference::tree::Tree;
+use reference::{damage, index_damage, indexing, owning, searching, seeing, tagging};
 
 // As much room as is needed, or a little more.
-pub fn enough(seed: &mut u64, needed: usize) -> usize {
-    std::num::wrapping_add_usize(needed, random::below(seed, 4))
+pub fn enough(seed: &mut Seed, needed: usize) -> usize {
+    needed.wrapping_add(seed.below(4))
 }
 
 // Every other time too little room: none, any, or one less than is needed.
-pub fn maybe_short(seed: &mut u64, needed: usize) -> usize {
-    let form = random::below(seed, 6);
-    if form == 0 {
-        return 0;
+pub fn maybe_short(seed: &mut Seed, needed: usize) -> usize {
+    match seed.below(6) {
+        0 => 0,
+        1 => seed.below(needed),
+        2 => needed.wrapping_sub(1),
+        _ => enough(seed, needed),
     }
-    if form == 1 {
-        return random::below(seed, needed);
+}
+
+// A shared table with the party that asks, the tree that this sees, and the index of that.
+#[derive(Clone, Copy)]
+struct Sought<'a> {
+    shared: &'a Shared,
+    tree: &'a Tree,
+    next: &'a Table,
+}
+
+impl<'a> Sought<'a> {
+    // The index and the list of the tags, in buffers with these rooms.
+    fn compare_index(&self, tally: &mut Tally, rooms: Rooms) {
+        let mut next = [NEXT_PATTERN; 1024];
+        let mut tags = [TAGS_PATTERN; 1024];
+        let made = indexing::make_due(self.tree, rooms.next, rooms.tags, &mut next, &mut tags);
+        indexes::compare(tally, self.shared, rooms, due_of(made), &next, &tags);
     }
-    if form == 2 {
-        return std::num::wrapping_sub_usize(needed, 1);
+
+    // A damaged table is refused whatever the rooms are, and nothing is written.
+    fn refuse_index(&self, tally: &mut Tally, seed: &mut Seed, length: usize) {
+        let mut other = *self.shared;
+        let refusal = damage::in_shared(seed, &mut other);
+        let rooms = Rooms {
+            next: maybe_short(seed, self.tree.size()),
+            tags: maybe_short(seed, length),
+        };
+        indexes::compare(
+            tally,
+            &other,
+            rooms,
+            due_of(Err(refusal)),
+            &[NEXT_PATTERN; 1024],
+            &[TAGS_PATTERN; 1024],
+        );
     }
-    enough(seed, needed)
-}
 
-// The index and the list of the tags, in buffers with these rooms.
-fn compare_index(
-    tally: &mut tally::Tally,
-    shared: &shared::Shared,
-    tree: &table::Table,
-    next_room: usize,
-    tags_room: usize,
-) {
-    let mut next = [indexes::NEXT_PATTERN; 1024];
-    let mut tags = [indexes::TAGS_PATTERN; 1024];
-    let t = table::numbers(tree);
-    let due = indexing::make_due(t, next_room, tags_room, &mut next, &mut tags);
-    let c = indexes::Call {
-        next_room: next_room,
-        tags_room: tags_room,
-        due: due,
-    };
-    indexes::compare(tally, shared, c, &next, &tags);
-}
-
-// A damaged table is refused whatever the rooms are, and nothing is written.
-fn refuse_index(
-    tally: &mut tally::Tally,
-    seed: &mut u64,
-    shared: &shared::Shared,
-    n: usize,
-    length: usize,
-) {
-    let due_next = [indexes::NEXT_PATTERN; 1024];
-    let due_tags = [indexes::TAGS_PATTERN; 1024];
-    let mut other = *shared;
-    let reply = damage::in_shared(seed, &mut other);
-    let next_room = maybe_short(seed, n);
-    let tags_room = maybe_short(seed, length);
-    let c = indexes::Call {
-        next_room: next_room,
-        tags_room: tags_room,
-        due: indexing::refused(model::wide(reply.number), model::wide(reply.place)),
-    };
-    indexes::compare(tally, &other, c, &due_next, &due_tags);
-}
-
-// An index is made, and refused for its buffers and for its table.
-fn compare_indexes(
-    tally: &mut tally::Tally,
-    seed: &mut u64,
-    shared: &shared::Shared,
-    tree: &table::Table,
-) {
-    let n = table::size(tree);
-    let length = indexing::list_length(table::numbers(tree));
-    let next_room = enough(seed, n);
-    let tags_room = enough(seed, length);
-    compare_index(tally, shared, tree, next_room, tags_room);
-    let next_or_less = maybe_short(seed, n);
-    let tags_or_less = maybe_short(seed, length);
-    compare_index(tally, shared, tree, next_or_less, tags_or_less);
-    refuse_index(tally, seed, shared, n, length);
-}
-
-// A search by the tree's own index: every descendant that has the tag.
-fn search(
-    tally: &mut tally::Tally,
-    seed: &mut u64,
-    shared: &shared::Shared,
-    tree: &table::Table,
-    next: &table::Table,
-) {
-    let mut due = [call::PATTERN; 512];
-    let a = tagging::choose_aim(seed, tree);
-    let t = table::numbers(tree);
-    let found = searching::put_descendants(t, a.start, a.tag, &mut due);
-    tally::add(tally, tally::NODES, found as u64);
-    let c = lookups::Call {
-        start: a.start,
-        tag: a.tag,
-        room: enough(seed, table::size(tree)),
-        due: model::ImageReply {
-            number: 0,
-            place: 0,
-            count: found,
-        },
-    };
-    lookups::compare(tally, shared, next, c, &due);
-}
-
-// A damaged index is counted: it is refused, or not, and then the answer may be another than that of the tree's own.
-fn count(tally: &mut tally::Tally, tree: &[u16], a: tagging::Aim, due: model::ImageReply) {
-    let mut all = [0u8; 512];
-    if due.number != 0 {
-        tally::add(tally, tally::BROKEN, 1);
-        return;
+    // An index is made, and refused for its buffers and for its table.
+    fn compare_indexes(&self, tally: &mut Tally, seed: &mut Seed) {
+        let n = self.tree.size();
+        let length = indexing::list_length(self.tree);
+        let rooms = Rooms {
+            next: enough(seed, n),
+            tags: enough(seed, length),
+        };
+        self.compare_index(tally, rooms);
+        let rooms_or_less = Rooms {
+            next: maybe_short(seed, n),
+            tags: maybe_short(seed, length),
+        };
+        self.compare_index(tally, rooms_or_less);
+        self.refuse_index(tally, seed, length);
     }
-    tally::add(tally, tally::UNSEEN, 1);
-    let found = searching::put_descendants(tree, a.start, a.tag, &mut all);
-    tally::add(tally, tally::CHANGED, (due.count != found) as u64);
-}
 
-// A search by a damaged index: what the chain meets, or the refusal where it breaks.
-fn search_damaged(
-    tally: &mut tally::Tally,
-    seed: &mut u64,
-    shared: &shared::Shared,
-    tree: &table::Table,
-    next: &table::Table,
-) {
-    let mut due = [call::PATTERN; 512];
-    let mut other = *next;
-    let a = tagging::choose_aim(seed, tree);
-    index_damage::put_numbers(seed, tree, &mut other, a);
-    let room = enough(seed, table::size(tree));
-    let reply = searching::search(tree, &other, a.start, a.tag, room, &mut due);
-    count(tally, table::numbers(tree), a, reply);
-    let c = lookups::Call {
-        start: a.start,
-        tag: a.tag,
-        room: room,
-        due: reply,
-    };
-    lookups::compare(tally, shared, &other, c, &due);
-}
-
-// An index as it is, with other numbers, or with another length.
-fn maybe_damaged(seed: &mut u64, tree: &table::Table, next: &mut table::Table, a: tagging::Aim) {
-    let form = random::below(seed, 3);
-    if form == 1 {
-        index_damage::put_numbers(seed, tree, next, a);
+    // A search by the tree's own index: every descendant that has the tag.
+    fn search(&self, tally: &mut Tally, seed: &mut Seed) {
+        let mut due = [call::PATTERN; 512];
+        let a = tagging::choose_aim(seed, self.tree);
+        let found = searching::put_descendants(self.tree, a.start, a.tag, &mut due);
+        tally.add(Sum::Nodes, found as u64);
+        let c = lookups::Call {
+            start: a.start,
+            tag: a.tag,
+            room: enough(seed, self.tree.size()),
+            due: call::counting(found),
+        };
+        lookups::compare(tally, self.shared, self.next, c, &due);
     }
-    if form == 2 {
-        index_damage::put_length(seed, next, table::size(tree));
+
+    // A damaged index is counted: it is refused, or not, and then the answer may be another than that of the tree's own.
+    fn count(&self, tally: &mut Tally, a: Aim, due: Result<usize, Refusal>) {
+        match due {
+            Ok(count) => {
+                let mut all = [0u8; 512];
+                tally.add(Sum::Unseen, 1);
+                let found = searching::put_descendants(self.tree, a.start, a.tag, &mut all);
+                tally.count(Sum::Changed, count != found);
+            }
+            Err(_) => tally.add(Sum::Broken, 1),
+        }
+    }
+
+    // A search by a damaged index: what the chain meets, or the refusal where it breaks.
+    fn search_damaged(&self, tally: &mut Tally, seed: &mut Seed) {
+        let mut due = [call::PATTERN; 512];
+        let mut other = *self.next;
+        let a = tagging::choose_aim(seed, self.tree);
+        index_damage::put_numbers(seed, self.tree, &mut other, a);
+        let room = enough(seed, self.tree.size());
+        let found = searching::search(self.tree, &other, a.start, a.tag, room, &mut due);
+        self.count(tally, a, found);
+        let c = lookups::Call {
+            start: a.start,
+            tag: a.tag,
+            room,
+            due: ImageReply::from(found),
+        };
+        lookups::compare(tally, self.shared, &other, c, &due);
+    }
+
+    // The index as it is, with other numbers, or with another length.
+    fn maybe_damaged(&self, seed: &mut Seed, a: Aim) -> Table {
+        let mut other = *self.next;
+        match seed.below(3) {
+            1 => index_damage::put_numbers(seed, self.tree, &mut other, a),
+            2 => index_damage::put_length(seed, &mut other, self.tree.size()),
+            _ => (),
+        }
+        other
+    }
+
+    // A search with several faults, or none: the first of them in the order of the checks is told.
+    fn search_faulty(&self, tally: &mut Tally, seed: &mut Seed) {
+        let mut due = [call::PATTERN; 512];
+        let n = self.tree.size();
+        let a = tagging::choose_aim(seed, self.tree);
+        let other = self.maybe_damaged(seed, a);
+        let start = maybe_beyond(seed, a.start, n);
+        let room = maybe_short(seed, n);
+        let found = searching::search(self.tree, &other, start, a.tag, room, &mut due);
+        let c = lookups::Call {
+            start,
+            tag: a.tag,
+            room,
+            due: ImageReply::from(found),
+        };
+        lookups::compare(tally, self.shared, &other, c, &due);
+    }
+
+    // A search in a damaged table, with other faults: that of the table is told, and nothing is written.
+    fn search_refused(&self, tally: &mut Tally, seed: &mut Seed) {
+        let mut other = *self.shared;
+        let n = self.tree.size();
+        let a = tagging::choose_aim(seed, self.tree);
+        let other_next = self.maybe_damaged(seed, a);
+        let refused: Result<usize, Refusal> = Err(damage::in_shared(seed, &mut other));
+        let c = lookups::Call {
+            start: maybe_beyond(seed, a.start, n),
+            tag: a.tag,
+            room: maybe_short(seed, n),
+            due: ImageReply::from(refused),
+        };
+        lookups::compare(tally, &other, &other_next, c, &[call::PATTERN; 512]);
+    }
+
+    // The index of the tree, and searches by it of every sort, so many times.
+    fn search_all(&self, tally: &mut Tally, seed: &mut Seed, times: usize) {
+        self.compare_indexes(tally, seed);
+        for _ in 0..times {
+            self.search(tally, seed);
+            self.search_damaged(tally, seed);
+            self.search_damaged(tally, seed);
+            self.search_faulty(tally, seed);
+        }
+        self.search_refused(tally, seed);
     }
 }
 
 // A start that is mostly the node; else the first number that is no node, or any such.
-fn maybe_beyond(seed: &mut u64, start: usize, n: usize) -> usize {
-    let form = random::below(seed, 6);
-    if form == 0 {
-        return n;
+fn maybe_beyond(seed: &mut Seed, start: usize, n: usize) -> usize {
+    match seed.below(6) {
+        0 => n,
+        1 => seed.between(n, 65535),
+        _ => start,
     }
-    if form == 1 {
-        return random::between(seed, n, 65535);
-    }
-    start
-}
-
-// A search with several faults, or none: the first of them in the order of the checks is told.
-fn search_faulty(
-    tally: &mut tally::Tally,
-    seed: &mut u64,
-    shared: &shared::Shared,
-    tree: &table::Table,
-    next: &table::Table,
-) {
-    let mut due = [call::PATTERN; 512];
-    let mut other = *next;
-    let n = table::size(tree);
-    let a = tagging::choose_aim(seed, tree);
-    maybe_damaged(seed, tree, &mut other, a);
-    let start = maybe_beyond(seed, a.start, n);
-    let room = maybe_short(seed, n);
-    let reply = searching::search(tree, &other, start, a.tag, room, &mut due);
-    let c = lookups::Call {
-        start: start,
-        tag: a.tag,
-        room: room,
-        due: reply,
-    };
-    lookups::compare(tally, shared, &other, c, &due);
-}
-
-// A search in a damaged table, with other faults: that of the table is told, and nothing is written.
-fn search_refused(
-    tally: &mut tally::Tally,
-    seed: &mut u64,
-    shared: &shared::Shared,
-    tree: &table::Table,
-    next: &table::Table,
-) {
-    let due = [call::PATTERN; 512];
-    let mut other = *shared;
-    let mut other_next = *next;
-    let n = table::size(tree);
-    let a = tagging::choose_aim(seed, tree);
-    maybe_damaged(seed, tree, &mut other_next, a);
-    let reply = damage::in_shared(seed, &mut other);
-    let c = lookups::Call {
-        start: maybe_beyond(seed, a.start, n),
-        tag: a.tag,
-        room: maybe_short(seed, n),
-        due: model::image_reply(reply, 0),
-    };
-    lookups::compare(tally, &other, &other_next, c, &due);
-}
-
-// Searches of every sort, so many times.
-fn search_often(
-    tally: &mut tally::Tally,
-    seed: &mut u64,
-    shared: &shared::Shared,
-    tree: &table::Table,
-    next: &table::Table,
-    times: usize,
-) {
-    let mut i = 0;
-    while i < times {
-        search(tally, seed, shared, tree, next);
-        search_damaged(tally, seed, shared, tree, next);
-        search_damaged(tally, seed, shared, tree, next);
-        search_faulty(tally, seed, shared, tree, next);
-        i += 1;
-    }
-}
-
-// The index of the tree that the party sees, and searches by it.
-fn search_all(
-    tally: &mut tally::Tally,
-    seed: &mut u64,
-    shared: &shared::Shared,
-    tree: &table::Table,
-    next: &table::Table,
-    times: usize,
-) {
-    compare_indexes(tally, seed, shared, tree);
-    search_often(tally, seed, shared, tree, next, times);
-    search_refused(tally, seed, shared, tree, next);
 }
 
 // All of these for a party; and the same calls with another table of which it sees the same tree.
-fn run_for(
-    tally: &mut tally::Tally,
-    seed: &mut u64,
-    shared: &shared::Shared,
-    party: usize,
-    times: usize,
-) {
-    let mut tree = [0u16; 1025];
-    let mut next = [0u16; 1025];
-    let mut twin = [0u16; 1538];
-    let own = shared::with_party(shared, party);
-    seeing::make(&own, &mut tree);
-    seeing::count(tally, &own);
-    owning::make_twin(seed, &tree, &own, &mut twin);
-    indexing::make_index(&tree, &mut next);
+fn run_for(tally: &mut Tally, seed: &mut Seed, shared: &Shared, times: usize) {
+    let tree = seeing::make(shared);
+    seeing::count(tally, shared);
+    let twin = owning::make_twin(seed, &tree, shared);
+    let next = indexing::make_index(&tree);
+    let sought = Sought {
+        shared,
+        tree: &tree,
+        next: &next,
+    };
+    let sought_twin = Sought {
+        shared: &twin,
+        ..sought
+    };
     let mut again = *seed;
-    search_all(tally, seed, &own, &tree, &next, times);
-    search_all(tally, &mut again, &twin, &tree, &next, times);
+    sought.search_all(tally, seed, times);
+    sought_twin.search_all(tally, &mut again, times);
 }
 
 // One table that a line asks for, and each party.
-pub fn run(tally: &mut tally::Tally, seed: &mut u64, line: &line::Line) {
-    let mut tree = [0u16; 1025];
-    let mut shared = [0u16; 1538];
-    let times = line::number(line, 1, 2);
-    tagging::make(seed, line, &mut tree);
-    owning::lay(seed, &tree, &mut shared);
-    run_for(tally, seed, &shared, 1, times);
-    run_for(tally, seed, &shared, 2, times);
+pub fn run(tally: &mut Tally, seed: &mut Seed, line: &Line) {
+    let tree = tagging::make(seed, line);
+    let shared = owning::lay(seed, &tree);
+    for party in 1..3 {
+        run_for(tally, seed, &shared.with_party(party), line.number(1, 2));
+    }
 }

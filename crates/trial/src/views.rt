@@ -1,127 +1,80 @@
 // The tree that a party sees: each call is compared with the reply and the count that are due, and the buffer with the numbers that are
 // due, those behind the tree with what they held.
 use super::{pages, searches};
-use harness::{line, shared, table, tally};
+use harness::line::Line;
+use harness::shared::Shared;
+use harness::table::{Table, narrow};
+use harness::tally::Tally;
+use model::{MadeReply, Reply};
 use reference::damage;
+use reference::random::Seed;
+use reference::tree::Tree;
 
-// A call: the numbers that there is room for, and the reply that is due.
-#[derive(Clone, Copy)]
-struct Call {
-    room: usize,
-    due: model::MadeReply,
-}
-
-// A reply that the service does not give.
-fn no_reply() -> model::MadeReply {
-    model::MadeReply {
-        number: 65535,
-        place: 65535,
-        count: 65535,
-    }
-}
-
-// Lends the front of the buffer.
-fn lend(shared: &shared::Shared, c: Call, to: &mut [u16]) -> model::MadeReply {
-    let room = c.room;
-    if to.len() < room {
-        return no_reply();
-    }
-    let t = shared::numbers(shared);
-    view::seen(t, shared::party(shared), &mut to[0..room])
-}
-
-fn compare(tally: &mut tally::Tally, shared: &shared::Shared, c: Call, due: &table::Rows) {
+// A call with room for so many numbers: a reply is due, and numbers at the front of the buffer.
+fn compare(tally: &mut Tally, shared: &Shared, room: usize, due: MadeReply, numbers: &[u16]) {
     let mut to = [pages::PATTERN; 1024];
-    let got = lend(shared, c, &mut to);
-    let number = model::Reply {
+    let mut rows = [pages::PATTERN; 1024];
+    for (place, x) in rows.iter_mut().zip(numbers) {
+        *place = *x;
+    }
+    let end = room.min(1024);
+    let got = view::seen(shared.numbers(), shared.party(), &mut to[..end]);
+    let reply = Reply {
         number: got.number,
         place: got.place,
     };
-    let reply = c.due;
-    tally::expect_reply(
-        tally,
-        number,
-        model::wide(reply.number),
-        model::wide(reply.place),
-    );
-    tally::expect(tally, got.count == reply.count);
-    tally::expect_rows(tally, &to, due);
+    tally.expect_reply(reply, usize::from(due.number), usize::from(due.place));
+    tally.expect(got.count == due.count);
+    tally.expect_rows(&to, &rows);
 }
 
 // A call that is refused; the buffer is left as it was.
-pub fn refuse(
-    tally: &mut tally::Tally,
-    shared: &shared::Shared,
-    room: usize,
-    number: usize,
-    place: usize,
-) {
-    let due = [pages::PATTERN; 1024];
-    let c = Call {
-        room: room,
-        due: model::MadeReply {
-            number: table::narrow(number),
-            place: table::narrow(place),
-            count: 0,
-        },
+pub fn refuse(tally: &mut Tally, shared: &Shared, room: usize, reply: Reply) {
+    let due = MadeReply {
+        number: reply.number,
+        place: reply.place,
+        count: 0,
     };
-    compare(tally, shared, c, &due);
+    compare(tally, shared, room, due, &[]);
 }
 
 // A call that is accepted: the tree is due, at the front of so much room.
-fn accept(tally: &mut tally::Tally, shared: &shared::Shared, room: usize, tree: &table::Table) {
-    let mut due = [pages::PATTERN; 1024];
-    table::copy_rows(table::numbers(tree), &mut due);
-    let c = Call {
-        room: room,
-        due: model::MadeReply {
-            number: 0,
-            place: 0,
-            count: table::length(tree),
-        },
+fn accept(tally: &mut Tally, shared: &Shared, room: usize, tree: &Table) {
+    let due = MadeReply {
+        number: 0,
+        place: 0,
+        count: tree.length(),
     };
-    compare(tally, shared, c, &due);
+    compare(tally, shared, room, due, tree.numbers());
 }
 
 // Room for the tree and no more, for more, for one number less, and any room for a table with a fault.
-pub fn compare_rooms(
-    tally: &mut tally::Tally,
-    seed: &mut u64,
-    shared: &shared::Shared,
-    tree: &table::Table,
-) {
+pub fn compare_rooms(tally: &mut Tally, seed: &mut Seed, shared: &Shared, tree: &Tree) {
     let mut other = *shared;
-    let needed = table::length(tree);
-    let more = std::num::wrapping_add_usize(searches::enough(seed, needed), 1);
-    accept(tally, shared, needed, tree);
-    accept(tally, shared, more, tree);
-    refuse(
-        tally,
-        shared,
-        std::num::wrapping_sub_usize(needed, 1),
-        20,
-        0,
-    );
-    let reply = damage::in_shared(seed, &mut other);
+    let needed = tree.table.length();
+    let more = searches::enough(seed, needed).wrapping_add(1);
+    let short = Reply {
+        number: 20,
+        place: 0,
+    };
+    accept(tally, shared, needed, &tree.table);
+    accept(tally, shared, more, &tree.table);
+    refuse(tally, shared, needed.wrapping_sub(1), short);
+    let refusal = damage::in_shared(seed, &mut other);
     let room = searches::maybe_short(seed, needed);
-    refuse(
-        tally,
-        &other,
-        room,
-        model::wide(reply.number),
-        model::wide(reply.place),
-    );
+    refuse(tally, &other, room, Reply::from(refusal));
 }
 
 // yields NUMBER PLACE | ROOM | TABLE
-pub fn run(tally: &mut tally::Tally, shared: &shared::Shared, line: &line::Line) {
-    let mut tree = [0u16; 1025];
-    let number = line::number(line, 0, 0);
-    let room = line::number(line, 1, 0);
-    line::copy(line, 2, &mut tree);
-    if number == 0 {
-        accept(tally, shared, room, &tree);
+pub fn run(tally: &mut Tally, shared: &Shared, line: &Line) {
+    let due = Reply {
+        number: narrow(line.number(0, 0)),
+        place: narrow(line.number(0, 1)),
+    };
+    let room = line.number(1, 0);
+    if due.number == 0 {
+        accept(tally, shared, room, &line.table(2));
         return;
     }
-    refuse(tally, shared, room, number, line::number(line, 0, 1));
+    refuse(tally, shared, room, due);
 }

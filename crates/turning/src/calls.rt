@@ -1,176 +1,146 @@
 // Calls of reverse, each with a buffer that is filled with a pattern: the reply with its count, and every number of the buffer, are
 // compared with what is due.
-use harness::{line, table, tally};
-use reference::{damage, random};
+use harness::line::Line;
+use harness::shared::Shared;
+use harness::table::{Rows, front};
+use harness::tally::Tally;
+use model::{MadeReply, Refusal, Reply};
+use reference::damage;
+use reference::query::Query;
+use reference::random::Seed;
 
 // What fills a buffer before a call: no number that a table holds here.
 const PATTERN: u16 = 7777;
 
-// A call: the number of variables, how much of the buffer is lent, and the reply that is due.
-#[derive(Drop)]
-struct Call {
-    columns: usize,
-    room: usize,
-    number: usize,
-    place: usize,
+// A call: a query, the number of variables, and how much of the buffer is lent.
+#[derive(Clone, Copy)]
+pub struct Call<'a> {
+    pub query: &'a Query,
+    pub columns: usize,
+    pub room: usize,
 }
 
-// A call, with the table that is due at the buffer's front if the call is accepted; the rest of the buffer is due to be as it was. A
-// room beyond the buffer fails.
-fn compare(tally: &mut tally::Tally, c: Call, query: &table::Table, table: &table::Table) {
-    let room = c.room;
-    if 1024 < room {
-        tally::expect(tally, false);
-        return;
-    }
+// The reply of the service, which writes to the front of a buffer.
+fn serve(c: Call, to: &mut Rows) -> MadeReply {
+    let room = c.room.min(1024);
+    reversal::reverse(c.query.numbers(), c.columns, &mut to[..room])
+}
+
+// A call with the reply that is due, and with the table that is due at the buffer's front if it is accepted; the rest of the buffer is
+// due to be as it was.
+fn compare(tally: &mut Tally, c: Call, number: usize, place: usize, table: &[u16]) {
     let mut to = [PATTERN; 1024];
     let mut due = [PATTERN; 1024];
     let mut count = 0;
-    if c.number == 0 {
-        table::copy_rows(table::numbers(table), &mut due);
-        count = table::length(table);
+    if number == 0 {
+        count = table.len();
+        for (at, x) in due.iter_mut().zip(table) {
+            *at = *x;
+        }
     }
-    let got = reversal::reverse(table::numbers(query), c.columns, &mut to[0..room]);
-    let reply = model::Reply {
+    let got = serve(c, &mut to);
+    let reply = Reply {
         number: got.number,
         place: got.place,
     };
-    tally::expect_reply(tally, reply, c.number, c.place);
-    tally::expect(tally, got.count == count);
-    tally::expect_rows(tally, &to, &due);
+    tally.expect_reply(reply, number, place);
+    tally.expect(got.count == count);
+    tally.expect_rows(&to, &due);
 }
 
-// The reply to a query that is accepted, where its reversed query has the table that is due.
-fn due_reply(table: &table::Table, room: usize) -> usize {
-    let count = table::length(table);
-    if 256 < count {
+// A call that is refused.
+fn refuse(tally: &mut Tally, c: Call, due: Reply) {
+    compare(tally, c, usize::from(due.number), usize::from(due.place), &[]);
+}
+
+// The number of the reply to a query that is accepted, where its reversed query has the table that is due.
+fn due_number(table: &[u16], room: usize) -> usize {
+    if 256 < table.len() {
         return 26;
     }
-    if room < count {
-        return 20;
-    }
-    0
+    if room < table.len() { 20 } else { 0 }
 }
 
 // A call with a query that is accepted, and room for so many numbers, or for 1024 where that is less.
-fn compare_room(
-    tally: &mut tally::Tally,
-    query: &table::Table,
-    columns: usize,
-    room: usize,
-    table: &table::Table,
-) {
-    let mut lent = room;
-    if 1024 < lent {
-        lent = 1024;
-    }
+fn compare_room(tally: &mut Tally, call: Call, room: usize, table: &[u16]) {
     let c = Call {
-        columns: columns,
-        room: lent,
-        number: due_reply(table, lent),
-        place: 0,
+        room: room.min(1024),
+        ..call
     };
-    compare(tally, c, query, table);
+    compare(tally, c, due_number(table, c.room), 0, table);
 }
 
 // Buffers that are exactly long enough, one number too short, too short by any number of them, and of any length.
-pub fn compare_rooms(
-    tally: &mut tally::Tally,
-    seed: &mut u64,
-    query: &table::Table,
-    columns: usize,
-    table: &table::Table,
-) {
-    let count = table::length(table);
-    compare_room(tally, query, columns, count, table);
-    compare_room(
-        tally,
-        query,
-        columns,
-        std::num::wrapping_sub_usize(count, 1),
-        table,
-    );
-    compare_room(tally, query, columns, random::below(seed, count), table);
-    compare_room(tally, query, columns, random::between(seed, 0, 1024), table);
+pub fn compare_rooms(tally: &mut Tally, seed: &mut Seed, c: Call, table: &[u16]) {
+    let count = table.len();
+    compare_room(tally, c, count, table);
+    compare_room(tally, c, count.wrapping_sub(1), table);
+    compare_room(tally, c, seed.below(count), table);
+    compare_room(tally, c, seed.between(0, 1024), table);
 }
 
 // A call that is due to be judged as the check of the query judges it, and refused if that does.
-fn compare_check(
-    tally: &mut tally::Tally,
-    query: &table::Table,
-    columns: usize,
-    room: usize,
-    table: &table::Table,
-) {
-    let v = query::check_query(table::numbers(query), columns);
+fn compare_check(tally: &mut Tally, c: Call, table: &[u16]) {
+    let v = query::check_query(c.query.numbers(), c.columns);
     if v.number == 0 {
-        compare_room(tally, query, columns, room, table);
+        compare_room(tally, c, c.room, table);
         return;
     }
-    let c = Call {
-        columns: columns,
-        room: room,
-        number: model::wide(v.number),
-        place: model::wide(v.place),
-    };
-    compare(tally, c, query, table);
+    refuse(tally, c, v);
 }
 
 // The query, of fewer than 64 entries, with a fault, of which the reply is known; and as it is with another number of variables, which
 // may be too few or too many.
-pub fn compare_faults(
-    tally: &mut tally::Tally,
-    seed: &mut u64,
-    query: &table::Table,
-    columns: usize,
-    table: &table::Table,
-) {
-    let mut shared = [0u16; 1538];
-    let mut other = *query;
-    let due = damage::in_table(seed, &mut shared, &mut other, 1);
-    let c = Call {
-        columns: columns,
-        room: random::between(seed, 0, 1024),
-        number: model::wide(due.number),
-        place: model::wide(due.place),
+pub fn compare_faults(tally: &mut Tally, seed: &mut Seed, call: Call, table: &[u16]) {
+    let mut shared = Shared::new();
+    let mut other = *call.query;
+    let due: Refusal = damage::in_table(seed, &mut shared, &mut other, 1);
+    let broken = Call {
+        query: &other,
+        columns: call.columns,
+        room: seed.between(0, 1024),
     };
-    compare(tally, c, &other, table);
-    let room = random::between(seed, 0, 1024);
-    compare_check(tally, query, random::below(seed, 6), room, table);
+    refuse(tally, broken, Reply::from(due));
+    let c = Call {
+        room: seed.between(0, 1024),
+        columns: seed.below(6),
+        ..call
+    };
+    compare_check(tally, c, table);
 }
 
 // The reversed query is accepted for the same number of variables.
-pub fn expect_accepted(tally: &mut tally::Tally, reversed: &table::Table, columns: usize) {
-    let got = query::check_query(table::numbers(reversed), columns);
-    tally::expect_reply(tally, got, 0, 0);
+pub fn expect_accepted(tally: &mut Tally, reversed: &Query, columns: usize) {
+    let got = query::check_query(reversed.numbers(), columns);
+    tally.expect_reply(got, 0, 0);
 }
 
-// Reverses a query into all but the first number of a table, and answers how many numbers that makes.
-fn reverse_behind(query: &[u16], columns: usize, to: &mut [u16]) -> usize {
-    if to.len() == 0 {
-        return 0;
+// The reversed query; an empty one if it is refused.
+pub fn reverse(query: &Query, columns: usize) -> Query {
+    let mut to = [0u16; 1024];
+    let c = Call {
+        query,
+        columns,
+        room: 1024,
+    };
+    let got = serve(c, &mut to);
+    let mut reversed = Query::new();
+    for x in front(&to, got.count) {
+        reversed.table.push(usize::from(*x));
     }
-    let r = reversal::reverse(query, columns, &mut to[1..]);
-    r.count
-}
-
-// Makes the reversed query; an empty table if it is refused.
-pub fn reverse(query: &table::Table, columns: usize, to: &mut table::Table) {
-    let count = reverse_behind(table::numbers(query), columns, to);
-    table::set_length(to, count);
+    reversed
 }
 
 // reverse NUMBER PLACE | COLUMNS ROOM | QUERY | TABLE
-pub fn run(tally: &mut tally::Tally, line: &line::Line) {
-    let mut query = [0u16; 1025];
-    let mut table = [0u16; 1025];
-    line::copy(line, 2, &mut query);
-    line::copy(line, 3, &mut table);
-    let c = Call {
-        columns: line::number(line, 1, 0),
-        room: line::number(line, 1, 1),
-        number: line::number(line, 0, 0),
-        place: line::number(line, 0, 1),
+pub fn run(tally: &mut Tally, line: &Line) {
+    let query = Query {
+        table: line.table(2),
     };
-    compare(tally, c, &query, &table);
+    let c = Call {
+        query: &query,
+        columns: line.number(1, 0),
+        room: line.number(1, 1),
+    };
+    let table = line.table(3);
+    compare(tally, c, line.number(0, 0), line.number(0, 1), table.numbers());
 }

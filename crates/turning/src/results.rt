@@ -1,228 +1,207 @@
 // Images and pairs over reversed queries: forwards over one is backwards over the other, and the pairs are swapped, by the engine and by
 // the reference evaluator.
-use super::{calls, counts};
-use harness::{line, shared, table, tally};
-use reference::{evaluator, random};
+use super::calls;
+use super::counts::Counts;
+use harness::line::Line;
+use harness::shared::Shared;
+use harness::table::{Cells, Set, Table, at, front, put};
+use harness::tally::{Sum, Tally};
+use model::{ImageReply, Reply};
+use reference::evaluator::{Asked, Pairs, fill, outcome};
+use reference::query::Query;
+use reference::random::{Seed, make_nodes, make_set};
+use reference::tree::Tree;
 
 // What fills a buffer before a call: no byte that a service writes.
 const PATTERN: u8 = 7;
 
-// The image of a set of n bytes.
-fn serve(
-    back: bool,
-    shared: &shared::Shared,
-    query: &[u16],
-    nodes: &[u16],
-    set: &[u8],
-    to: &mut [u8],
-) -> model::ImageReply {
-    let t = shared::numbers(shared);
-    let party = shared::party(shared);
-    let columns = nodes.len();
-    if back {
-        return parties::backwards(t, party, query, columns, nodes, set, to);
-    }
-    parties::forwards(t, party, query, columns, nodes, set, to)
-}
-
-// How many nodes there are, and how many the image of a set has each way.
+// What is lent beside the query: a shared table with the party that asks, and the node of each variable.
 #[derive(Clone, Copy)]
-struct Found {
-    n: usize,
-    ahead: usize,
-    back: usize,
+pub struct Lent<'a> {
+    pub shared: &'a Shared,
+    pub nodes: &'a Table,
 }
 
-// The image of a set's first n bytes by the engine, with the one that is due and its count. A set of fewer fails.
-fn compare(
-    tally: &mut tally::Tally,
-    back: bool,
-    shared: &shared::Shared,
-    query: &table::Table,
-    nodes: &table::Table,
-    n: usize,
-    set: &[u8],
-    due: &table::Set,
+// An image of a set, forwards or backwards, and how many nodes it has.
+#[derive(Clone, Copy)]
+struct Image {
+    bytes: Set,
     count: usize,
-) {
-    if set.len() < n {
-        tally::expect(tally, false);
-        return;
+}
+
+// The image of a set.
+fn serve(lent: Lent, query: &Query, back: bool, set: &[u8], to: &mut [u8]) -> ImageReply {
+    let t = lent.shared.numbers();
+    let party = lent.shared.party();
+    let q = query.numbers();
+    let k = lent.nodes.numbers();
+    if back {
+        return parties::backwards(t, party, q, k.len(), k, set, to);
     }
+    parties::forwards(t, party, q, k.len(), k, set, to)
+}
+
+// The image of a set by the engine, with the one that is due.
+fn compare(tally: &mut Tally, lent: Lent, query: &Query, back: bool, set: &[u8], due: &Image) {
     let mut to = [PATTERN; 512];
-    let q = table::numbers(query);
-    let k = table::numbers(nodes);
-    let got = serve(back, shared, q, k, &set[0..n], &mut to);
-    let reply = model::Reply {
+    let got = serve(lent, query, back, set, &mut to);
+    let reply = Reply {
         number: got.number,
         place: got.place,
     };
-    tally::expect_reply(tally, reply, 0, 0);
-    tally::expect(tally, got.count == count);
-    tally::expect_bytes(tally, &to, due, 256);
+    tally.expect_reply(reply, 0, 0);
+    tally.expect(got.count == due.count);
+    tally.expect_bytes(&to, &due.bytes, 256);
 }
 
-// Both images of a set over a query, where one is due as the other if the query is reversed.
-fn compare_both(
-    tally: &mut tally::Tally,
-    turned: bool,
-    shared: &shared::Shared,
-    query: &table::Table,
-    nodes: &table::Table,
-    f: Found,
-    set: &table::Set,
-    ahead: &table::Set,
-    back: &table::Set,
-) {
-    compare(
-        tally, turned, shared, query, nodes, f.n, set, ahead, f.ahead,
-    );
-    compare(tally, !turned, shared, query, nodes, f.n, set, back, f.back);
-}
-
-// The images of a random set each way, by the reference evaluator over the query, and by the engine over the query, over its reversed
-// query and, if there is one, over that one's.
-fn compare_images(
-    tally: &mut tally::Tally,
-    counts: &mut counts::Counts,
-    seed: &mut u64,
-    shared: &shared::Shared,
+// A set with both of its images over a query, by the reference evaluator.
+#[derive(Drop)]
+struct Images {
     n: usize,
-    query: &table::Table,
-    reversed: &table::Table,
-    twice: &table::Table,
-    nodes: &table::Table,
-    pairs: &evaluator::Pairs,
-) {
-    let mut set = [0u8; 512];
-    let mut ahead = [PATTERN; 512];
-    let mut back = [PATTERN; 512];
-    random::make_set(seed, &mut set, n);
-    let last = table::last(query);
-    let f = Found {
-        n: n,
-        ahead: evaluator::image(pairs, last, n, false, &set, &mut ahead),
-        back: evaluator::image(pairs, last, n, true, &set, &mut back),
-    };
-    counts::count_image(counts, f.ahead, n);
-    counts::count_image(counts, f.back, n);
-    compare_both(tally, false, shared, query, nodes, f, &set, &ahead, &back);
-    compare_both(tally, true, shared, reversed, nodes, f, &set, &ahead, &back);
-    if 0 < table::length(twice) {
-        compare_both(tally, false, shared, twice, nodes, f, &set, &ahead, &back);
+    set: Set,
+    ahead: Image,
+    back: Image,
+}
+
+impl Images {
+    fn make(seed: &mut Seed, pairs: &Pairs, asked: &Asked) -> Images {
+        let mut images = Images {
+            n: asked.tree.size(),
+            set: [0; 512],
+            ahead: Image {
+                bytes: [PATTERN; 512],
+                count: 0,
+            },
+            back: Image {
+                bytes: [PATTERN; 512],
+                count: 0,
+            },
+        };
+        make_set(seed, &mut images.set, images.n);
+        let relation = outcome(pairs, asked, false);
+        let turned = outcome(pairs, asked, true);
+        images.ahead.count = relation.image(&images.set, &mut images.ahead.bytes);
+        images.back.count = turned.image(&images.set, &mut images.back.bytes);
+        images
+    }
+
+    // Both by the engine over a query, where one is due as the other if the query is reversed.
+    fn compare(&self, tally: &mut Tally, lent: Lent, query: &Query, turned: bool) {
+        let set = front(&self.set, self.n);
+        compare(tally, lent, query, turned, set, &self.ahead);
+        compare(tally, lent, query, !turned, set, &self.back);
     }
 }
 
-// Pair (x, y) of n nodes becomes pair (y, x).
-fn swap_pair(cells: &table::Cells, n: usize, at: usize, to: &mut table::Cells) {
-    if n == 0 {
-        return;
-    }
-    let x = at / n;
-    let y = at % n;
-    let other = std::num::wrapping_add_usize(table::times(y, n), x);
-    table::put_byte(to, other, table::byte_at(cells, at) as usize);
+// A query, its reversed query and, if there is one, that one's.
+#[derive(Drop)]
+pub struct Turned {
+    pub query: Query,
+    pub reversed: Query,
+    pub twice: Query,
 }
 
-fn swap_pairs(cells: &table::Cells, n: usize, to: &mut table::Cells) {
-    let count = table::times(n, n);
-    let mut at = 0;
-    while at < count {
-        swap_pair(cells, n, at, to);
-        at += 1;
+// The pairs of n nodes, swapped: (x, y) becomes (y, x).
+fn swap_pairs(cells: &Cells, n: usize, to: &mut Cells) {
+    for x in 0..n {
+        for y in 0..n {
+            let pair = at(cells, x.wrapping_mul(n).wrapping_add(y));
+            put(to, y.wrapping_mul(n).wrapping_add(x), pair);
+        }
     }
-}
-
-fn expect_cells(tally: &mut tally::Tally, got: &table::Cells, due: &table::Cells, n: usize) {
-    tally::expect_bytes(tally, got, due, table::times(n, n));
 }
 
 // The pairs over a query, by the engine.
-fn compare_served(
-    tally: &mut tally::Tally,
-    shared: &shared::Shared,
-    query: &table::Table,
-    nodes: &table::Table,
-    n: usize,
-    due: &table::Cells,
-) {
+fn compare_served(tally: &mut Tally, lent: Lent, query: &Query, due: &Cells, count: usize) {
     let mut got = [PATTERN; 66560];
-    let t = shared::numbers(shared);
-    let party = shared::party(shared);
-    let q = table::numbers(query);
-    let k = table::numbers(nodes);
-    let reply = parties::pairs(t, party, q, k.len(), k, &mut got);
-    tally::expect_reply(tally, reply, 0, 0);
-    expect_cells(tally, &got, due, n);
+    let t = lent.shared.numbers();
+    let k = lent.nodes.numbers();
+    let reply = parties::pairs(t, lent.shared.party(), query.numbers(), k.len(), k, &mut got);
+    tally.expect_reply(reply, 0, 0);
+    tally.expect_bytes(&got, due, count);
 }
 
 // The pairs over the reversed query, by the engine and by the reference evaluator, with those over the query, swapped.
 fn compare_pairs(
-    tally: &mut tally::Tally,
-    shared: &shared::Shared,
-    tree: &table::Table,
-    query: &table::Table,
-    reversed: &table::Table,
-    nodes: &table::Table,
-    pairs: &mut evaluator::Pairs,
+    tally: &mut Tally,
+    lent: Lent,
+    asked: &Asked,
+    reversed: &Query,
+    pairs: &mut Pairs,
 ) {
     let mut cells = [PATTERN; 66560];
     let mut due = [PATTERN; 66560];
     let mut own = [PATTERN; 66560];
-    let n = table::size(tree);
-    let found = evaluator::all_pairs(pairs, table::last(query), n, &mut cells);
-    tally::add(tally, tally::PAIRS, found as u64);
+    let n = asked.tree.size();
+    let count = n.wrapping_mul(n);
+    let found = outcome(pairs, asked, false).all_pairs(&mut cells);
+    tally.add(Sum::Pairs, found as u64);
     swap_pairs(&cells, n, &mut due);
-    compare_served(tally, shared, reversed, nodes, n, &due);
-    evaluator::fill(pairs, tree, reversed, nodes);
-    evaluator::all_pairs(pairs, table::last(reversed), n, &mut own);
-    expect_cells(tally, &own, &due, n);
+    compare_served(tally, lent, reversed, &due, count);
+    let asked_back = Asked {
+        query: reversed,
+        ..*asked
+    };
+    fill(pairs, &asked_back);
+    outcome(pairs, &asked_back, false).all_pairs(&mut own);
+    tally.expect_bytes(&own, &due, count);
 }
 
-// All of these for a party that sees a tree of a shared table, under a random assignment.
+// All of these for a party that sees a tree of a shared table, under a random assignment: the images of a random set each way, by the
+// reference evaluator over the query, and by the engine over the query, over its reversed query and, if there is one, over that one's.
 pub fn compare_all(
-    tally: &mut tally::Tally,
-    counts: &mut counts::Counts,
-    seed: &mut u64,
-    shared: &shared::Shared,
-    tree: &table::Table,
-    query: &table::Table,
-    reversed: &table::Table,
-    twice: &table::Table,
+    tally: &mut Tally,
+    counts: &mut Counts,
+    seed: &mut Seed,
+    shared: &Shared,
+    tree: &Tree,
+    turned: &Turned,
     columns: usize,
-    pairs: &mut evaluator::Pairs,
+    pairs: &mut Pairs,
 ) {
-    let mut nodes = [0u16; 1025];
-    let n = table::size(tree);
-    random::make_nodes(seed, &mut nodes, columns, n);
-    evaluator::fill(pairs, tree, query, &nodes);
-    compare_images(
-        tally, counts, seed, shared, n, query, reversed, twice, &nodes, pairs,
-    );
-    compare_pairs(tally, shared, tree, query, reversed, &nodes, pairs);
+    let nodes = make_nodes(seed, columns, tree.size());
+    let asked = Asked {
+        tree,
+        query: &turned.query,
+        nodes: &nodes,
+    };
+    let lent = Lent {
+        shared,
+        nodes: &nodes,
+    };
+    fill(pairs, &asked);
+    let images = Images::make(seed, pairs, &asked);
+    counts.count_image(images.ahead.count, images.n);
+    counts.count_image(images.back.count, images.n);
+    images.compare(tally, lent, &turned.query, false);
+    images.compare(tally, lent, &turned.reversed, true);
+    if 0 < turned.twice.entries() {
+        images.compare(tally, lent, &turned.twice, false);
+    }
+    compare_pairs(tally, lent, &asked, &turned.reversed, pairs);
 }
 
 // image COUNT | TREE | QUERY | NODES | SET | BYTES
-pub fn run(tally: &mut tally::Tally, line: &line::Line) {
-    let mut tree = [0u16; 1025];
-    let mut shared = [0u16; 1538];
-    let mut query = [0u16; 1025];
-    let mut nodes = [0u16; 1025];
-    let mut reversed = [0u16; 1025];
+pub fn run(tally: &mut Tally, line: &Line) {
+    let tree = line.table(1);
+    let query = Query {
+        table: line.table(2),
+    };
+    let nodes = line.table(3);
+    let shared = Shared::common(&tree).with_party(1);
+    let reversed = calls::reverse(&query, nodes.length());
     let mut set = [0u8; 512];
-    let mut due = [PATTERN; 512];
-    line::copy(line, 1, &mut tree);
-    shared::make_common(&tree, &mut shared);
-    shared::set_party(&mut shared, 1);
-    line::copy(line, 2, &mut query);
-    line::copy(line, 3, &mut nodes);
-    line::copy_bytes(line, 4, &mut set);
-    line::copy_bytes(line, 5, &mut due);
-    calls::reverse(&query, table::length(&nodes), &mut reversed);
-    let n = table::size(&tree);
-    let count = line::number(line, 0, 0);
-    compare(tally, true, &shared, &query, &nodes, n, &set, &due, count);
-    compare(
-        tally, false, &shared, &reversed, &nodes, n, &set, &due, count,
-    );
+    let mut due = Image {
+        bytes: [PATTERN; 512],
+        count: line.number(0, 0),
+    };
+    line.copy_bytes(4, &mut set);
+    line.copy_bytes(5, &mut due.bytes);
+    let lent = Lent {
+        shared: &shared,
+        nodes: &nodes,
+    };
+    let lent_set = front(&set, tree.length() / 2);
+    compare(tally, lent, &query, true, lent_set, &due);
+    compare(tally, lent, &reversed, false, lent_set, &due);
 }

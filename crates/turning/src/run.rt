@@ -1,89 +1,42 @@
 // The checks of the input, by the first letter of their line.
-use super::{calls, counts, queries, results};
-use harness::{line, tally};
-use reference::evaluator;
-
-// So many random tables and queries from a seed.
-fn run_times(
-    tally: &mut tally::Tally,
-    counts: &mut counts::Counts,
-    line: &line::Line,
-    letter: u8,
-    pairs: &mut evaluator::Pairs,
-) {
-    let mut seed = line::number(line, 0, 0) as u64;
-    let count = line::number(line, 0, 1);
-    let mut i = 0;
-    while i < count {
-        queries::run(tally, counts, &mut seed, line, letter, pairs);
-        i += 1;
-    }
-}
+use super::counts::Counts;
+use super::queries::Growth;
+use super::{calls, queries, results};
+use harness::line::Line;
+use harness::tally::Tally;
+use reference::random::Seed;
 
 // queries SEED COUNT | LEAST MOST ENTRIES: so many shared tables, of LEAST to MOST nodes, and queries from a seed
 // joined SEED COUNT | LEAST MOST | LEAST MOST: the same with deep queries of LEAST to MOST leaves
-fn run_random(
-    tally: &mut tally::Tally,
-    counts: &mut counts::Counts,
-    line: &line::Line,
-    letter: u8,
-) {
+fn run_random(tally: &mut Tally, counts: &mut Counts, line: &Line, growth: Growth) {
     let mut pairs = [0u8; 4194304];
-    run_times(tally, counts, line, letter, &mut pairs);
-}
-
-fn run_check(tally: &mut tally::Tally, counts: &mut counts::Counts, line: &line::Line, letter: u8) {
-    if letter == b'r' {
-        calls::run(tally, line);
-        return;
-    }
-    if letter == b'i' {
-        results::run(tally, line);
-        return;
-    }
-    if (letter == b'q') | (letter == queries::JOINED) {
-        run_random(tally, counts, line, letter);
-        return;
-    }
-    if letter == b'e' {
-        let of = line::number(line, 0, 0);
-        counts::expect_all(tally, counts, of, line::number(line, 0, 1));
+    let mut seed = Seed::new(line.number(0, 0));
+    for _ in 0..line.number(0, 1) {
+        queries::run(tally, counts, &mut seed, line, growth, &mut pairs);
     }
 }
 
-// Runs the line that starts at a place, and answers where the next one starts.
-fn run_line(
-    tally: &mut tally::Tally,
-    counts: &mut counts::Counts,
-    text: &[u8],
-    start: usize,
-) -> usize {
-    if text.len() <= start {
-        return start;
+// Runs a line.
+fn run_line(tally: &mut Tally, counts: &mut Counts, bytes: &[u8]) {
+    tally.next_line();
+    let line = Line::read(bytes);
+    match bytes.first().copied() {
+        Some(b'=') => tally.end_part(bytes),
+        Some(b'r') => calls::run(tally, &line),
+        Some(b'i') => results::run(tally, &line),
+        Some(b'q') => run_random(tally, counts, &line, Growth::Free),
+        Some(b'j') => run_random(tally, counts, &line, Growth::Joined),
+        Some(b'e') => counts.expect_all(tally, line.number(0, 0), line.number(0, 1)),
+        _ => (),
     }
-    let letter = text[start];
-    let mut line = [0usize; 1032];
-    let next = line::read(text, start, &mut line);
-    tally::next_line(tally);
-    if letter == b'=' {
-        tally::end_part(tally, text, start, next);
-        return next;
-    }
-    run_check(tally, counts, &line, letter);
-    next
 }
 
 pub fn run_all(text: &[u8]) {
-    let mut tally = [0u64; 71];
-    let mut counts = [0u64; 71];
-    let mut at = 0;
-    while at < text.len() {
-        let next = run_line(&mut tally, &mut counts, text, at);
-        if next <= at {
-            return;
-        }
-        at = next;
+    let mut tally = Tally::new();
+    let mut counts = Counts::new();
+    for bytes in text.split(|b| *b == b'\n') {
+        run_line(&mut tally, &mut counts, bytes);
     }
-    counts::show_all(&counts);
-    tally::show_all(&tally);
+    counts.show_all();
+    tally.show_all();
 }

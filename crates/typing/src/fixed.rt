@@ -1,235 +1,107 @@
 // Texts that are written out in the input, with the reply and the table that are due.
-use super::{call, counts};
-use chart::words;
-use harness::{line, table, tally};
-use texts::grow;
+use super::call::{Lent, NOTHING, Record};
+use harness::line::Line;
+use harness::table::{byte, front, narrow};
+use model::{ReadReply, Refusal};
+use texts::grow::Numbers;
+use texts::text::Text;
 
-// Where the next line starts, and how many bytes the present text and vocabularies have.
+// The present text and vocabularies.
 #[derive(Clone, Copy)]
 pub struct Present {
-    pub start: usize,
-    pub text: usize,
-    pub house: usize,
-    pub site: usize,
+    pub text: Text,
+    pub house: Text,
+    pub site: Text,
 }
 
-// Copies the rest of a line from a place on; answers how many bytes it has.
-pub fn copy(text: &[u8], start: usize, to: &mut words::Bytes) -> usize {
-    let mut k = 0;
-    while k < 2048 {
-        let b = table::byte_at(text, std::num::wrapping_add_usize(start, k));
-        if (b == b'\n') | (b == 0) {
-            return k;
-        }
-        words::put_byte(to, k, b);
-        k += 1;
+// The rest of a line `> TEXT`.
+pub fn text_of(line: &[u8]) -> Text {
+    let mut text = Text::new();
+    text.append(line.get(2..).unwrap_or(b""));
+    text
+}
+
+// The names of a line as a vocabulary, each behind its length.
+pub fn vocabulary_of(line: &[u8]) -> Text {
+    let mut vocabulary = Text::new();
+    for name in line.split(|b| *b == b' ').skip(1) {
+        vocabulary.push(byte(name.len()));
+        vocabulary.append(name);
     }
-    k
+    vocabulary
 }
 
-// A vocabulary as far as it is made: where its last name's length byte stands, and where it ends.
-#[derive(Drop)]
-struct Names {
-    last: usize,
-    end: usize,
+fn reply(line: &Line) -> ReadReply {
+    ReadReply {
+        number: narrow(line.number(0, 0)),
+        place: narrow(line.number(0, 1)),
+        count: line.number(0, 2),
+        columns: narrow(line.number(0, 3)),
+    }
 }
 
-// A space begins a name; any other byte goes to the last.
-fn further(n: Names, b: u8, to: &mut words::Bytes) -> Names {
-    let end = n.end;
-    let next = std::num::wrapping_add_usize(end, 1);
-    if b == b' ' {
-        words::put_byte(to, end, 0);
-        return Names {
-            last: end,
-            end: next,
+impl Record {
+    // The chart, too, is held against what is written.
+    fn expect_chart(&mut self, text: &[u8], due: ReadReply) {
+        let length = text.len();
+        let number = due.number;
+        if (chart::MOST < length) | (number == 21) | (number == 23) {
+            return;
+        }
+        let v = chart::judge(text);
+        self.tally.expect(v.is_whole(length) == (number != 24));
+        if number == 24 {
+            self.tally.expect(v.reach(length) == usize::from(due.place));
+        }
+    }
+
+    // A text with the reply and the table that are due.
+    fn expect(&mut self, lent: Lent, due: ReadReply, table: &Numbers) {
+        self.expect_chart(lent.text, due);
+        self.compare(lent, due, table);
+    }
+
+    // unfinished FIRST: each front of the text of FIRST bytes or more, but for all of it, is refused with 24 at its end
+    pub fn run_unfinished(&mut self, line: &Line, p: &Present) {
+        let text = p.text.bytes();
+        for length in line.number(0, 0)..text.len() {
+            let lent = Lent {
+                text: front(text, length),
+                house: p.house.bytes(),
+                site: p.site.bytes(),
+                room: 320,
+            };
+            let due = super::call::refused(Refusal::Ungrammatical(narrow(length)));
+            self.expect(lent, due, &NOTHING);
+        }
+    }
+
+    // The present text, with a house vocabulary.
+    fn run_with(&mut self, line: &Line, p: &Present, house: &[u8]) {
+        let mut due = NOTHING;
+        line.copy_numbers(2, &mut due);
+        let lent = Lent {
+            text: p.text.bytes(),
+            house,
+            site: p.site.bytes(),
+            room: line.number(1, 0),
         };
+        self.expect(lent, reply(line), &due);
     }
-    if end == 0 {
-        return n;
-    }
-    words::put_byte(to, end, b);
-    words::put_byte(
-        to,
-        n.last,
-        table::byte(std::num::wrapping_sub_usize(end, n.last)),
-    );
-    Names {
-        last: n.last,
-        end: next,
-    }
-}
 
-// Makes the names of a line a vocabulary; answers how many bytes it has.
-pub fn copy_names(text: &[u8], start: usize, to: &mut words::Bytes) -> usize {
-    let mut n = Names { last: 0, end: 0 };
-    let mut k = start;
-    while k < text.len() {
-        let b = text[k];
-        if b == b'\n' {
-            return n.end;
+    // read NUMBER PLACE COUNT COLUMNS | ROOM | TABLE
+    pub fn run_read(&mut self, line: &Line, p: &Present) {
+        self.run_with(line, p, p.house.bytes());
+    }
+
+    // many NUMBER PLACE COUNT COLUMNS | ROOM | TABLE | NAMES: as read, with a house vocabulary of so many names `x`
+    pub fn run_many(&mut self, line: &Line, p: &Present) {
+        // Room for 65536 names of one byte.
+        let mut house = [0u8; 131072];
+        let names = line.number(3, 0);
+        for name in house.chunks_exact_mut(2).take(names) {
+            name.copy_from_slice(b"\x01x");
         }
-        let next = further(n, b, to);
-        n = next;
-        k += 1;
+        self.run_with(line, p, front(&house, names.wrapping_mul(2)));
     }
-    n.end
-}
-
-// Number k of a table that is due.
-fn put_number(due: &mut grow::Numbers, k: usize, value: usize) {
-    if k < 320 {
-        due[k] = table::narrow(value);
-    }
-}
-
-fn copy_table(line: &line::Line, due: &mut grow::Numbers) {
-    let count = line::length(line, 2);
-    let mut k = 0;
-    while k < count {
-        put_number(due, k, line::number(line, 2, k));
-        k += 1;
-    }
-}
-
-fn reply(line: &line::Line) -> model::ReadReply {
-    model::ReadReply {
-        number: table::narrow(line::number(line, 0, 0)),
-        place: table::narrow(line::number(line, 0, 1)),
-        count: line::number(line, 0, 2),
-        columns: table::narrow(line::number(line, 0, 3)),
-    }
-}
-
-// The chart, too, is held against what is written.
-fn expect_chart(tally: &mut tally::Tally, text: &[u8], due: model::ReadReply) {
-    let length = text.len();
-    let number = due.number;
-    if (chart::MOST < length) | (number == 21) | (number == 23) {
-        return;
-    }
-    let v = chart::judge(text);
-    tally::expect(tally, chart::spans::has(v.whole, length) == (number != 24));
-    if number == 24 {
-        tally::expect(tally, chart::reach(v, length) == model::wide(due.place));
-    }
-}
-
-// A text with the reply and the table that are due.
-fn expect(
-    tally: &mut tally::Tally,
-    counts: &mut counts::Counts,
-    typed: &[u8],
-    house: &[u8],
-    site: &[u8],
-    lent: call::Lent,
-    due: model::ReadReply,
-    table: &grow::Numbers,
-) {
-    expect_chart(tally, typed, due);
-    call::compare(tally, counts, typed, house, site, lent, due, table);
-}
-
-// unfinished FIRST: each front of the text of FIRST bytes or more, but for all of it, is refused with 24 at its end
-pub fn run_unfinished(
-    tally: &mut tally::Tally,
-    counts: &mut counts::Counts,
-    line: &line::Line,
-    text: &[u8],
-    house: &[u8],
-    site: &[u8],
-    p: Present,
-) {
-    let none = [call::PATTERN; 320];
-    let lent = call::Lent {
-        house: p.house,
-        site: p.site,
-        room: 320,
-    };
-    let end = p.text;
-    let mut length = line::number(line, 0, 0);
-    while length < end {
-        let typed = front(text, length);
-        let due = call::refused(24, length);
-        expect(tally, counts, typed, house, site, lent, due, &none);
-        length += 1;
-    }
-}
-
-// read NUMBER PLACE COUNT COLUMNS | ROOM | TABLE
-pub fn run(
-    tally: &mut tally::Tally,
-    counts: &mut counts::Counts,
-    line: &line::Line,
-    text: &[u8],
-    house: &[u8],
-    site: &[u8],
-    p: Present,
-) {
-    let mut due = [call::PATTERN; 320];
-    copy_table(line, &mut due);
-    let lent = call::Lent {
-        house: p.house,
-        site: p.site,
-        room: line::number(line, 1, 0),
-    };
-    let typed = front(text, p.text);
-    expect(tally, counts, typed, house, site, lent, reply(line), &due);
-}
-
-// The bytes of a buffer up to a length.
-pub fn front(bytes: &[u8], length: usize) -> &[u8] {
-    if bytes.len() < length {
-        return bytes;
-    }
-    &bytes[0..length]
-}
-
-// Room for 65535 names of one byte.
-type Long = [u8; 131072];
-
-fn put_short_name(to: &mut Long, k: usize) {
-    if k < 65536 {
-        to[2 * k] = 1;
-        to[2 * k + 1] = b'x';
-    }
-}
-
-fn fill_short(to: &mut Long, names: usize) {
-    let mut k = 0;
-    while k < names {
-        put_short_name(to, k);
-        k += 1;
-    }
-}
-
-// A call with a long house vocabulary of so many names.
-fn run_long(
-    tally: &mut tally::Tally,
-    counts: &mut counts::Counts,
-    line: &line::Line,
-    text: &[u8],
-    house: &Long,
-    site: &[u8],
-    p: Present,
-    names: usize,
-) {
-    let mut all = p;
-    all.house = table::times(2, names);
-    run(tally, counts, line, text, house, site, all);
-}
-
-// many NUMBER PLACE COUNT COLUMNS | ROOM | TABLE | NAMES: as read, with a house vocabulary of so many names `x`
-pub fn run_many(
-    tally: &mut tally::Tally,
-    counts: &mut counts::Counts,
-    line: &line::Line,
-    text: &[u8],
-    site: &[u8],
-    p: Present,
-) {
-    let mut house = [0u8; 131072];
-    let names = line::number(line, 3, 0);
-    fill_short(&mut house, names);
-    run_long(tally, counts, line, text, &house, site, p, names);
 }

@@ -1,350 +1,218 @@
 // Random typed queries: each is read, then cut at every place, and then damaged. The chart tells what is due where the text is
 // no longer the one that was made.
-use super::{call, counts, fixed};
-use chart::words;
-use harness::{line, table, tally};
-use reference::random;
-use texts::{damage, grow, vocabulary};
-
-// The text in a buffer.
-fn whole(bytes: &words::Bytes, length: usize) -> &[u8] {
-    fixed::front(bytes, length)
-}
-
-// A text of at most 63 bytes, of which nothing is known but what the chart tells of it.
-fn compare_any(
-    tally: &mut tally::Tally,
-    counts: &mut counts::Counts,
-    text: &[u8],
-    house: &words::Bytes,
-    site: &words::Bytes,
-    lent: call::Lent,
-    v: chart::Verdicts,
-) {
-    let none = [call::PATTERN; 320];
-    let length = text.len();
-    counts::add(counts, counts::DAMAGED);
-    if length == 0 {
-        call::compare(
-            tally,
-            counts,
-            text,
-            house,
-            site,
-            lent,
-            call::refused(23, 0),
-            &none,
-        );
-        return;
-    }
-    if chart::spans::has(v.whole, length) {
-        counts::add(counts, counts::WHOLE);
-        call::compare_whole(tally, counts, text, house, site, lent);
-        return;
-    }
-    let place = chart::reach(v, length);
-    counts::add(counts, place_kind(place, length));
-    call::compare(
-        tally,
-        counts,
-        text,
-        house,
-        site,
-        lent,
-        call::refused(24, place),
-        &none,
-    );
-}
-
-fn place_kind(place: usize, length: usize) -> usize {
-    if place < length {
-        return counts::INSIDE;
-    }
-    counts::AT_END
-}
-
-// All fronts of a text.
-fn cut(
-    tally: &mut tally::Tally,
-    counts: &mut counts::Counts,
-    text: &[u8],
-    house: &words::Bytes,
-    site: &words::Bytes,
-    lent: call::Lent,
-    v: chart::Verdicts,
-) {
-    let end = text.len();
-    let mut length = 0;
-    while length < end {
-        compare_any(
-            tally,
-            counts,
-            fixed::front(text, length),
-            house,
-            site,
-            lent,
-            v,
-        );
-        length += 1;
-    }
-}
-
-// The text with some damage, unless it is then longer than the chart takes.
-fn damage_once(
-    tally: &mut tally::Tally,
-    counts: &mut counts::Counts,
-    seed: &mut u64,
-    text: &[u8],
-    house: &words::Bytes,
-    site: &words::Bytes,
-    lent: call::Lent,
-) {
-    let mut other = [0u8; 2048];
-    let length = damage::make(seed, text, &mut other);
-    if chart::MOST < length {
-        return;
-    }
-    let damaged = whole(&other, length);
-    compare_any(
-        tally,
-        counts,
-        damaged,
-        house,
-        site,
-        lent,
-        chart::judge(damaged),
-    );
-}
-
-fn damage_often(
-    tally: &mut tally::Tally,
-    counts: &mut counts::Counts,
-    seed: &mut u64,
-    text: &[u8],
-    house: &words::Bytes,
-    site: &words::Bytes,
-    lent: call::Lent,
-    times: usize,
-) {
-    let mut i = 0;
-    while i < times {
-        damage_once(tally, counts, seed, text, house, site, lent);
-        i += 1;
-    }
-}
+use super::call::{Lent, Record, refused};
+use super::counts::{Side, Sum};
+use chart::Verdicts;
+use harness::line::Line;
+use harness::sums::bit;
+use harness::table::{at, front, narrow};
+use model::{Kind, Read, ReadReply, Refusal};
+use reference::random::Seed;
+use texts::grow::{self, Made, Numbers};
+use texts::text::Text;
+use texts::{damage, vocabulary};
 
 // What is due for a text that was made, read with sound vocabularies and so much room.
-fn due(m: grow::Made, room: usize) -> model::ReadReply {
-    let needed = table::times(4, m.entries);
-    if 1024 < m.length {
-        return call::refused(23, 0);
+fn due(m: &Made, room: usize) -> Result<Read, Refusal> {
+    let count = m.entries.wrapping_mul(4);
+    if 1024 < m.text.length() {
+        return Err(Refusal::TextLength);
     }
-    if m.unknown != 65535 {
-        return call::refused(25, m.unknown);
+    if let Some(place) = m.unknown {
+        return Err(Refusal::UnknownName(narrow(place)));
     }
     if 64 < m.entries {
-        return call::refused(26, 0);
+        return Err(Refusal::TooManyEntries);
     }
-    if room < needed {
-        return call::refused(20, 0);
+    if room < count {
+        return Err(Refusal::Room);
     }
-    model::ReadReply {
-        number: 0,
-        place: 0,
-        count: needed,
-        columns: table::narrow(m.columns),
-    }
+    Ok(Read {
+        count,
+        columns: narrow(m.columns),
+    })
 }
 
 // Room for just the table, for a little or much more, or for less.
-fn room_for(seed: &mut u64, needed: usize) -> usize {
-    let form = random::below(seed, 4);
+fn room_for(seed: &mut Seed, needed: usize) -> usize {
+    let form = seed.below(4);
     if 256 < needed {
-        return random::below(seed, 320);
+        return seed.below(320);
     }
-    if form == 0 {
-        return needed;
-    }
-    if form == 1 {
-        return std::num::wrapping_add_usize(needed, random::below(seed, 5));
-    }
-    if form == 2 {
-        return 320;
-    }
-    random::below(seed, needed)
-}
-
-// Number k of entry e.
-fn field(numbers: &grow::Numbers, e: usize, k: usize) -> usize {
-    table::at(numbers, std::num::wrapping_add_usize(table::times(4, e), k))
-}
-
-// The kind of an entry is met, and the axis of a step or the kinds of the operands.
-fn meet_entry(counts: &mut counts::Counts, numbers: &grow::Numbers, e: usize) {
-    let kind = field(numbers, e, 0);
-    let left = field(numbers, e, 1);
-    counts::meet(counts, counts::KINDS, chart::spans::bit(kind));
-    if kind == 0 {
-        counts::meet(counts, counts::AXES, chart::spans::bit(left));
-        return;
-    }
-    let right = field(numbers, e, 2);
-    counts::meet_operand(counts, kind, 0, field(numbers, left, 0));
-    counts::meet_operand(counts, kind, 1, field(numbers, right, 0));
-}
-
-// All entries of an accepted table are met.
-fn meet_entries(counts: &mut counts::Counts, numbers: &grow::Numbers, entries: usize) {
-    let mut e = 0;
-    while e < entries {
-        meet_entry(counts, numbers, e);
-        e += 1;
+    match form {
+        0 => needed,
+        1 => needed.wrapping_add(seed.below(5)),
+        2 => 320,
+        _ => seed.below(needed),
     }
 }
 
-// The text that was made, and its table.
-fn compare_made(
-    tally: &mut tally::Tally,
-    counts: &mut counts::Counts,
-    text: &[u8],
-    house: &words::Bytes,
-    site: &words::Bytes,
-    lent: call::Lent,
-    m: grow::Made,
-    numbers: &grow::Numbers,
-) {
-    let reply = due(m, lent.room);
-    counts::add_text(counts, counts::TEXTS, m.words);
-    if reply.number == 0 {
-        counts::add_text(counts, counts::ACCEPTED, m.words);
-        counts::meet(counts, counts::WORDS, m.words);
-        counts::meet(counts, counts::NAMES, m.names);
-        meet_entries(counts, numbers, m.entries);
-        call::compare(tally, counts, text, house, site, lent, reply, numbers);
-        return;
-    }
-    let none = [call::PATTERN; 320];
-    call::compare(tally, counts, text, house, site, lent, reply, &none);
+// The kind of entry e, and its operands.
+fn kind_at(numbers: &Numbers, e: usize) -> usize {
+    usize::from(at(numbers, e.wrapping_mul(4)))
 }
 
-// A vocabulary, or both, may be malformed: that is told first, whatever the text.
-fn compare_spoilt(
-    tally: &mut tally::Tally,
-    counts: &mut counts::Counts,
-    seed: &mut u64,
-    text: &[u8],
-    house: &mut words::Bytes,
-    site: &mut words::Bytes,
-    lent: call::Lent,
-) {
-    let none = [call::PATTERN; 320];
-    let which = random::below(seed, 3);
-    let mut bad = lent;
-    if which < 2 {
-        bad.site = vocabulary::spoil(seed, site, lent.site);
-    }
-    if 0 < which {
-        bad.house = vocabulary::spoil(seed, house, lent.house);
-    }
-    let place = (which == 0) as usize;
-    call::compare(
-        tally,
-        counts,
-        text,
-        house,
-        site,
-        bad,
-        call::refused(21, place),
-        &none,
-    );
+// Vocabularies, and what they say of names.
+#[derive(Clone, Copy)]
+struct Books {
+    house: Text,
+    site: Text,
+    tags: vocabulary::Tags,
 }
 
-// Cuts and damage of a text that the chart can take; of a longer one only the cuts that it can.
-fn compare_others(
-    tally: &mut tally::Tally,
-    counts: &mut counts::Counts,
-    seed: &mut u64,
-    text: &[u8],
-    house: &words::Bytes,
-    site: &words::Bytes,
-    lent: call::Lent,
-    times: usize,
-) {
-    let known = fixed::front(text, least(text.len(), chart::MOST));
-    let v = chart::judge(known);
-    tally::expect(tally, chart::reach(v, known.len()) == known.len());
-    if text.len() == known.len() {
-        tally::expect(tally, chart::spans::has(v.whole, text.len()));
-        damage_often(tally, counts, seed, text, house, site, lent, times);
+impl Books {
+    // Of no names, few or many.
+    fn make(seed: &mut Seed) -> Books {
+        let mut books = Books {
+            house: Text::new(),
+            site: Text::new(),
+            tags: vocabulary::Tags::new(),
+        };
+        let most = seed.below(5).wrapping_mul(15);
+        let first = seed.between(0, most);
+        let second = seed.between(0, most);
+        vocabulary::fill(seed, &mut books.house, &mut books.tags, 0, first);
+        vocabulary::fill(seed, &mut books.site, &mut books.tags, first, second);
+        books
     }
-    cut(tally, counts, known, house, site, lent, v);
-}
 
-fn least(a: usize, b: usize) -> usize {
-    if a < b {
-        return a;
-    }
-    b
-}
-
-// Vocabularies of no names, few or many.
-fn fill_both(
-    seed: &mut u64,
-    house: &mut words::Bytes,
-    site: &mut words::Bytes,
-    tags: &mut vocabulary::Tags,
-) -> call::Lent {
-    let most = random::below(seed, 5);
-    let first = random::between(seed, 0, table::times(most, 15));
-    let second = random::between(seed, 0, table::times(most, 15));
-    let house_end = vocabulary::fill(seed, house, tags, 0, first);
-    let site_end = vocabulary::fill(seed, site, tags, first, second);
-    call::Lent {
-        house: house_end,
-        site: site_end,
-        room: 320,
+    // A text with these vocabularies, and so much room.
+    fn lend<'a>(&'a self, text: &'a [u8], room: usize) -> Lent<'a> {
+        Lent {
+            text,
+            house: self.house.bytes(),
+            site: self.site.bytes(),
+            room,
+        }
     }
 }
 
-// One random text with random vocabularies.
-fn run_one(
-    tally: &mut tally::Tally,
-    counts: &mut counts::Counts,
-    seed: &mut u64,
-    line: &line::Line,
-) {
-    let mut house = [0u8; 2048];
-    let mut site = [0u8; 2048];
-    let mut bytes = [0u8; 2048];
-    let mut numbers = [call::PATTERN; 320];
-    let mut tags = [vocabulary::UNKNOWN; 20];
-    let most = fill_both(seed, &mut house, &mut site, &mut tags);
-    let choices = random::between(seed, line::number(line, 1, 0), line::number(line, 1, 1));
-    let m = grow::make(seed, &mut bytes, &mut numbers, &tags, choices);
-    let text = whole(&bytes, m.length);
-    let mut lent = most;
-    lent.room = room_for(seed, table::times(4, m.entries));
-    compare_made(tally, counts, text, &house, &site, lent, m, &numbers);
-    compare_others(
-        tally,
-        counts,
-        seed,
-        text,
-        &house,
-        &site,
-        most,
-        line::number(line, 1, 2),
-    );
-    compare_spoilt(tally, counts, seed, text, &mut house, &mut site, most);
-}
+impl Record {
+    // A text of at most 63 bytes, of which nothing is known but what the chart tells of it.
+    fn compare_any(&mut self, lent: Lent, v: Verdicts) {
+        let length = lent.text.len();
+        self.counts.add(Sum::Damaged);
+        if length == 0 {
+            self.compare_refused(lent, Refusal::TextLength);
+            return;
+        }
+        if v.is_whole(length) {
+            self.counts.add(Sum::Whole);
+            self.compare_whole(lent);
+            return;
+        }
+        let place = v.reach(length);
+        self.counts.add(if place < length {
+            Sum::Inside
+        } else {
+            Sum::AtEnd
+        });
+        self.compare_refused(lent, Refusal::Ungrammatical(narrow(place)));
+    }
 
-// texts SEED COUNT | LEAST MOST TIMES: so many texts of LEAST to MOST choices from a seed, each damaged so many times
-pub fn run(tally: &mut tally::Tally, counts: &mut counts::Counts, line: &line::Line) {
-    let mut seed = line::number(line, 0, 0) as u64;
-    let count = line::number(line, 0, 1);
-    let mut i = 0;
-    while i < count {
-        run_one(tally, counts, &mut seed, line);
-        i += 1;
+    // All fronts of a text but itself.
+    fn cut(&mut self, lent: Lent, v: Verdicts) {
+        for length in 0..lent.text.len() {
+            let text = front(lent.text, length);
+            self.compare_any(Lent { text, ..lent }, v);
+        }
+    }
+
+    // The text with some damage, unless it is then longer than the chart takes.
+    fn damage_once(&mut self, seed: &mut Seed, lent: Lent) {
+        let damaged = damage::make(seed, lent.text);
+        if damaged.length() <= chart::MOST {
+            let text = damaged.bytes();
+            self.compare_any(Lent { text, ..lent }, chart::judge(text));
+        }
+    }
+
+    // The kind of an entry is met, and the axis of a step or the kinds of the operands.
+    fn meet_entry(&mut self, numbers: &Numbers, e: usize) {
+        let place = e.wrapping_mul(4);
+        let number = kind_at(numbers, e);
+        let left = usize::from(at(numbers, place.wrapping_add(1)));
+        let right = usize::from(at(numbers, place.wrapping_add(2)));
+        self.counts.meet(Sum::Kinds, bit(number));
+        match Kind::from_number(number) {
+            Some(Kind::Step) => self.counts.meet(Sum::Axes, bit(left)),
+            Some(kind) => {
+                self.counts
+                    .meet_operand(kind, Side::Left, kind_at(numbers, left));
+                self.counts
+                    .meet_operand(kind, Side::Right, kind_at(numbers, right));
+            }
+            None => (),
+        }
+    }
+
+    // The text that was made, and its table.
+    fn compare_made(&mut self, lent: Lent, m: &Made) {
+        self.counts.add_text(m.words);
+        match due(m, lent.room) {
+            Ok(read) => {
+                self.counts.add_accepted(m.words, m.names);
+                for e in 0..m.entries {
+                    self.meet_entry(&m.due, e);
+                }
+                let outcome: Result<Read, Refusal> = Ok(read);
+                self.compare(lent, ReadReply::from(outcome), &m.due);
+            }
+            Err(refusal) => self.compare_refused(lent, refusal),
+        }
+    }
+
+    // Cuts and damage of a text that the chart can take; of a longer one only the cuts that it can.
+    fn compare_others(&mut self, seed: &mut Seed, lent: Lent, times: usize) {
+        let known = front(lent.text, chart::MOST);
+        let v = chart::judge(known);
+        self.tally.expect(v.reach(known.len()) == known.len());
+        if lent.text.len() == known.len() {
+            self.tally.expect(v.is_whole(known.len()));
+            for _ in 0..times {
+                self.damage_once(seed, lent);
+            }
+        }
+        self.cut(
+            Lent {
+                text: known,
+                ..lent
+            },
+            v,
+        );
+    }
+
+    // A vocabulary, or both, may be malformed: that is told first, whatever the text.
+    fn compare_spoilt(&mut self, seed: &mut Seed, text: &[u8], books: &Books) {
+        let mut bad = *books;
+        let which = seed.below(3);
+        if which < 2 {
+            vocabulary::spoil(seed, &mut bad.site);
+        }
+        if 0 < which {
+            vocabulary::spoil(seed, &mut bad.house);
+        }
+        let place = u16::from(which == 0);
+        self.compare_refused(bad.lend(text, 320), Refusal::NameTable(place));
+    }
+
+    // One random text with random vocabularies.
+    fn run_one(&mut self, seed: &mut Seed, line: &Line) {
+        let books = Books::make(seed);
+        let choices = seed.within(line, 1, 0);
+        let m = grow::make(seed, &books.tags, choices);
+        let text = m.text.bytes();
+        let room = room_for(seed, m.entries.wrapping_mul(4));
+        self.compare_made(books.lend(text, room), &m);
+        self.compare_others(seed, books.lend(text, 320), line.number(1, 2));
+        self.compare_spoilt(seed, text, &books);
+    }
+
+    // texts SEED COUNT | LEAST MOST TIMES: so many texts of LEAST to MOST choices from a seed, each damaged so many times
+    pub fn run_texts(&mut self, line: &Line) {
+        let mut seed = Seed::new(line.number(0, 0));
+        for _ in 0..line.number(0, 1) {
+            self.run_one(&mut seed, line);
+        }
     }
 }

@@ -1,9 +1,0 @@
--- `chart::spans::then` is safe and ends.
-use Rattle.std.proofs.Common.{◌-◌}
-use Rattle.chart.proofs.spans.then.Given as goal
-
-abbrev pub invariant-loop-k : goal.invariant-loop-k
-invariant-loop-k l = Unit {0}
-
-abbrev pub decreases-loop-k : goal.decreases-loop-k
-decreases-loop-k l = 64 - l.k

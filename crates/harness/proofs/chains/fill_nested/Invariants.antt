@@ -1,9 +1,0 @@
--- `harness::chains::fill_nested` is safe and ends.
-use Rattle.std.proofs.Common.{◌-◌}
-use Rattle.harness.proofs.chains.fill_nested.Given as goal
-
-abbrev pub invariant-loop-e : goal.invariant-loop-e
-invariant-loop-e l = Unit {0}
-
-abbrev pub decreases-loop-e : goal.decreases-loop-e
-decreases-loop-e l = 256 - l.e

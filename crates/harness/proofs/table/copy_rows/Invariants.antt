@@ -1,9 +1,0 @@
--- `harness::table::copy_rows` is safe and ends.
-use Rattle.std.proofs.Common.{◌-◌, length}
-use Rattle.harness.proofs.table.copy_rows.Given as goal
-
-abbrev pub invariant-loop-k : goal.invariant-loop-k
-invariant-loop-k l = Unit {0}
-
-abbrev pub decreases-loop-k : goal.decreases-loop-k
-decreases-loop-k l = length l.numbers - l.k

@@ -1,9 +1,0 @@
--- `reference::effort::first_difference` is safe and ends.
-use Rattle.std.proofs.Common.{◌-◌}
-use Rattle.reference.proofs.effort.first_difference.Given as goal
-
-abbrev pub invariant-loop-j : goal.invariant-loop-j
-invariant-loop-j l = Unit {0}
-
-abbrev pub decreases-loop-j : goal.decreases-loop-j
-decreases-loop-j l = l.columns - l.j

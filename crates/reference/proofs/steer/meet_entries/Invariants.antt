@@ -1,9 +1,0 @@
--- `reference::steer::meet_entries` is safe and ends.
-use Rattle.std.proofs.Common.{◌-◌}
-use Rattle.reference.proofs.steer.meet_entries.Given as goal
-
-abbrev pub invariant-loop-e : goal.invariant-loop-e
-invariant-loop-e l = Unit {0}
-
-abbrev pub decreases-loop-e : goal.decreases-loop-e
-decreases-loop-e l = l.entries - l.e

@@ -1,9 +1,0 @@
--- `reference::tagging::retag` is safe and ends.
-use Rattle.std.proofs.Common.{◌-◌}
-use Rattle.reference.proofs.tagging.retag.Given as goal
-
-abbrev pub invariant-loop-x : goal.invariant-loop-x
-invariant-loop-x l = Unit {0}
-
-abbrev pub decreases-loop-x : goal.decreases-loop-x
-decreases-loop-x l = l.n - l.x

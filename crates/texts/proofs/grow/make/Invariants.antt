@@ -1,9 +1,0 @@
--- `texts::grow::make` is safe and ends.
-use Rattle.std.proofs.Common.{◌-◌}
-use Rattle.texts.proofs.grow.make.Given as goal
-
-abbrev pub invariant-loop-i : goal.invariant-loop-i
-invariant-loop-i l = Unit {0}
-
-abbrev pub decreases-loop-i : goal.decreases-loop-i
-decreases-loop-i l = 8192 - l.i

@@ -1,9 +1,0 @@
--- `texts::vocabulary::length` is safe and ends.
-use Rattle.std.proofs.Common.{◌-◌}
-use Rattle.texts.proofs.vocabulary.length.Given as goal
-
-abbrev pub invariant-loop-k : goal.invariant-loop-k
-invariant-loop-k l = Unit {0}
-
-abbrev pub decreases-loop-k : goal.decreases-loop-k
-decreases-loop-k l = 40 - l.k

@@ -1,9 +1,0 @@
--- `trial::blocks::fill` is safe and ends.
-use Rattle.std.proofs.Common.{◌-◌}
-use Rattle.trial.proofs.blocks.fill.Given as goal
-
-abbrev pub invariant-loop-e : goal.invariant-loop-e
-invariant-loop-e l = Unit {0}
-
-abbrev pub decreases-loop-e : goal.decreases-loop-e
-decreases-loop-e l = l.entries - l.e

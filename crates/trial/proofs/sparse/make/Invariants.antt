@@ -1,9 +1,0 @@
--- `trial::sparse::make` is safe and ends.
-use Rattle.std.proofs.Common.{◌-◌}
-use Rattle.trial.proofs.sparse.make.Given as goal
-
-abbrev pub invariant-loop-i : goal.invariant-loop-i
-invariant-loop-i l = Unit {0}
-
-abbrev pub decreases-loop-i : goal.decreases-loop-i
-decreases-loop-i l = 20 - l.i

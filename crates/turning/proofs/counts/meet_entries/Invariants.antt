@@ -1,9 +1,0 @@
--- `turning::counts::meet_entries` is safe and ends.
-use Rattle.std.proofs.Common.{◌-◌}
-use Rattle.turning.proofs.counts.meet_entries.Given as goal
-
-abbrev pub invariant-loop-e : goal.invariant-loop-e
-invariant-loop-e l = Unit {0}
-
-abbrev pub decreases-loop-e : goal.decreases-loop-e
-decreases-loop-e l = l.entries - l.e

@@ -1,9 +1,0 @@
--- `typing::fixed::copy_table` is safe and ends.
-use Rattle.std.proofs.Common.{◌-◌}
-use Rattle.typing.proofs.fixed.copy_table.Given as goal
-
-abbrev pub invariant-loop-k : goal.invariant-loop-k
-invariant-loop-k l = Unit {0}
-
-abbrev pub decreases-loop-k : goal.decreases-loop-k
-decreases-loop-k l = l.count - l.k

@@ -1,9 +1,0 @@
--- `typing::fixed::fill_short` is safe and ends.
-use Rattle.std.proofs.Common.{◌-◌}
-use Rattle.typing.proofs.fixed.fill_short.Given as goal
-
-abbrev pub invariant-loop-k : goal.invariant-loop-k
-invariant-loop-k l = Unit {0}
-
-abbrev pub decreases-loop-k : goal.decreases-loop-k
-decreases-loop-k l = l.names - l.k
