@@ -1,4 +1,3 @@
-use native.Mathlib.Omega.{arith}
 use borrow.Author.Rules.{rules}
 use Rattle.model.specs.Sets.{memb}
 use Rattle.model.proofs.Bytes.{fill_start, fill_store, fill_done}
@@ -9,7 +8,7 @@ loop-i-init c = search (fill_start, rules)
 
 pub loop-i-preserved : goal.loop-i-preserved
 unfolding memb
-loop-i-preserved c = (omega arith, fill_store 256 _ _ _ _ c.loop-i.invariant.1 c.byte.ensures)
+loop-i-preserved c = fill_store 256 _ _ _ _ c.loop-i.invariant c.byte.ensures
 
 pub returns : goal.returns
 returns c = search (fill_done, rules)

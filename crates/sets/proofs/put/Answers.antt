@@ -8,14 +8,14 @@ pub loop-i-init : goal.loop-i-init
 loop-i-init c = search (over_start, rules)
 
 pub bounds-out-i : goal.bounds-out-i
-bounds-out-i c = omega (arith, length_over _ _ _ _ c.loop-i.invariant.1 (omega arith))
+bounds-out-i c = omega (arith, length_over _ _ _ _ c.loop-i.invariant (omega arith))
 
 pub loop-i-preserved : goal.loop-i-preserved
 unfolding memb
-loop-i-preserved c = (omega arith, over_more _ _ _ _ _ c.loop-i.invariant.1 c.byte-b.ensures (omega arith))
+loop-i-preserved c = over_more _ _ _ _ _ c.loop-i.invariant c.byte-b.ensures (omega arith)
 
 pub shape_of-out : goal.shape_of-out
-shape_of-out c = length_over _ _ _ _ c.loop-i.invariant.1 (omega arith)
+shape_of-out c = length_over _ _ _ _ c.loop-i.invariant (omega arith)
 
 pub returns : goal.returns
 returns c = search (over_done, rules)

@@ -14,7 +14,7 @@ pub loop-k-preserved : goal.loop-k-preserved
 unfolding memb
 loop-k-preserved c =
     let b : c.from.result ≡ bit (shifted c.args.at c.args.bytes.now c.loop-k.k) = search rules in
-    (omega arith, word_more _ _ _ _ c.loop-k.invariant.1 b (omega arith))
+    word_more _ _ _ _ c.loop-k.invariant b (omega arith)
 
 pub returns : goal.returns
 returns c = search (pack_done, rules)
