@@ -1,8 +1,8 @@
 -- What an entry asks for that either engine can evaluate, and what its table comes to as bytes.
 use Prim.Native.Nat.{ℕ, ◌*◌, ◌≤◌}
 use native.Mathlib.Omega.{arith}
-use mathlib.Core.Path.{◌≡◌, ◌∙◌, subst}
-use mathlib.Core.Bool.{Bool, true, false, cond}
+use mathlib.Core.Path.{◌≡◌, ◌∙◌}
+use mathlib.Core.Bool.{Bool}
 use mathlib.Core.List.{List}
 use lib.ListN.{length, get_or}
 use borrow.Author.Tests.{lt-ltb}
@@ -37,21 +37,6 @@ module _ {t prev q nodes : List ℕ} {e : ℕ} {path : Bool} (s : Suits t prev q
       table = h;
       fits = omega (arith, c.at e s.kinds.within);
     }
-
--- an entry whose sort the flag tells
-pub suits_sort : {t prev q nodes : List ℕ} {e : ℕ} (path b : Bool) → Suits t prev q nodes e path → path ≡ b → Suits t prev q nodes e b
-suits_sort {t} {prev} {q} {nodes} {e} path b s p = subst (λ (c : Bool). Suits t prev q nodes e c) p s
-
--- 1024 words are enough for its table
-pub suits_words : {t prev q nodes : List ℕ} {e : ℕ} {path : Bool} (words : List ℕ) → length words ≡ 1024 → Suits t prev q nodes e path → 4 * size_of t ≤ length words
-suits_words words h s = omega (arith, small s)
-
--- what the flag tells of the result
-pub did_path : (path : Bool) (r a b : List ℕ) → r ≡ a → path ≡ true → r ≡ cond path a b
-did_path path r a b p h = rw h p
-
-pub did_expr : (path : Bool) (r a b : List ℕ) → r ≡ b → path ≡ false → r ≡ cond path a b
-did_expr path r a b p h = rw h p
 
 module _ (t q nodes : List ℕ) (e : ℕ) (le : size_of t ≤ 256) (r : List ℕ) where
   pub did_image : (back : Bool) (from w o : List ℕ) → r ≡ tab 256 (image (size_of t) (turn back (bit_relation o)) (memb from)) → Becomes (size_of t) (table_at t q nodes e) w o → r ≡ reached t q nodes e back from

@@ -1,12 +1,13 @@
 -- What an evaluation asks for that either engine may make: the one over sets (eval), or the one over whole tables of bits (relations).
-use Rattle.std.specs.Prelude.{ℕ, ◌≤◌, ◌≡◌, Bool, true, List, length}
+use Rattle.std.specs.Prelude.{ℕ, ◌≤◌, ◌≡◌, Bool, true, false, Option, None, Some, List, length}
+use Rattle.std.specs.Borrow.{Bor}
 use Rattle.model.specs.declared.Call.{Call}
 use Rattle.model.specs.Tree.{size_of}
 use Rattle.model.specs.QueryTable.{entries_of, last_of}
 use Rattle.model.specs.Answers.{Row}
 use Rattle.model.specs.Accepted.{Below, Evaluable}
 use Rattle.steps.specs.Moves.{Linked}
-use Rattle.eval.specs.Evaluation.{Ready, Sorted}
+use Rattle.eval.specs.Evaluation.{Ready, Sorted, passed_for, reached_for}
 use Rattle.aside.specs.Aside.{aside_at}
 
 -- an entry, a path where the flag is set and else a node expression, that either engine can evaluate: of a table that has no more entries
@@ -20,6 +21,15 @@ pub record Suits (t prev q nodes : List ℕ) (e : ℕ) (path : Bool) : Type 0 wh
 -- the same of what an evaluation is lent
 abbrev pub SuitsFor : Call → ℕ → Bool → Type 0
 SuitsFor c e path = Suits c.tree.now c.prev.now c.query.now c.nodes.now e path
+
+-- what is asked of an entry: of a path the image of a set, backwards where the flag is set; of a node expression the nodes where it holds
+abbrev pub asks_image : Option (Bool × Bor (List ℕ)) → Bool
+asks_image None = false
+asks_image (Some image) = true
+
+abbrev pub answered : Call → ℕ → Option (Bool × Bor (List ℕ)) → List ℕ
+answered c e None = passed_for c e
+answered c e (Some image) = reached_for c e image.0 image.1.now
 
 -- a tree with its links, and a query of k variables that either can evaluate under every assignment to nodes
 pub record Searchable (t prev q : List ℕ) (k : ℕ) : Type 0 where

@@ -9,11 +9,11 @@
 
 mod reading;
 
-ghost use Rattle.std.specs.Prelude.{◌≡◌, true, false, cond, ◌*◌, ◌≤◌, length};
+ghost use Rattle.std.specs.Prelude.{◌≡◌, true, false, ◌*◌, ◌≤◌, length};
 ghost use Rattle.model.specs.Sets.{ones};
 ghost use Rattle.model.specs.Tree.{size_of};
 ghost use Rattle.eval.specs.Evaluation.{passed_for, reached_for};
-ghost use Rattle.engines.specs.Engines.{SuitsFor};
+ghost use Rattle.engines.specs.Engines.{SuitsFor, asks_image, answered};
 
 use model::Call;
 use relations::table::Evaluation;
@@ -55,26 +55,23 @@ fn node_in(call: &Call, e: usize, words: &mut [u64], count: &mut usize) -> [u8; 
     r
 }
 
-// One of the two: of a path where the flag is set; of a node expression no set is looked at. The words, 8 KiB, stand in the frame of this
-// function alone. Both functions below call it, so that it is compiled as a function of its own and not as a part of an only caller: a
-// call that goes over sets takes no room for a table on its stack.
+// One of the two: the image where a set is given, with its direction, else the nodes of a node expression. The words, 8 KiB, stand in the
+// frame of this function alone. Both functions below call it, so that it is compiled as a function of its own and not as a part of an only
+// caller: a call that goes over sets takes no room for a table on its stack.
 fn by_tables(
     call: &Call,
     e: usize,
-    path: bool,
-    back: bool,
-    from: [u8; 256],
+    image: Option<(bool, &[u8; 256])>,
     count: &mut usize,
 ) -> [u8; 256]
-    requires { SuitsFor call.now e path }
-    ensures { (result ≡ cond path (reached_for call.now e back from) (passed_for call.now e))
-        × (count.new ≡ ones result) }
+    requires { SuitsFor call.now e (asks_image image) }
+    ensures { (result ≡ answered call.now e image.entry) × (count.new ≡ ones result) }
 {
     let mut words = [0u64; 1024];
-    if path {
-        return path_in(call, e, back, from, &mut words, count);
+    match image {
+        Some((back, from)) => path_in(call, e, back, *from, &mut words, count),
+        None => node_in(call, e, &mut words, count),
     }
-    node_in(call, e, &mut words, count)
 }
 
 // What a set reaches by the path at entry e, or what reaches the set where back is set, and how many nodes that is: by whole tables where
@@ -91,7 +88,7 @@ pub fn image(
     ensures { (result ≡ reached_for call.now e back from) × (count.new ≡ ones result) }
 {
     if whole {
-        return by_tables(call, e, true, back, from, count);
+        return by_tables(call, e, Some((back, &from)), count);
     }
     eval::path(call, e, back, from, count)
 }
@@ -102,7 +99,7 @@ pub fn node(call: &Call, whole: bool, e: usize, count: &mut usize) -> [u8; 256]
     ensures { (result ≡ passed_for call.now e) × (count.new ≡ ones result) }
 {
     if whole {
-        return by_tables(call, e, false, false, sets::full(0), count);
+        return by_tables(call, e, None, count);
     }
     eval::node(call, e, count)
 }

@@ -39,10 +39,6 @@ both_within : (c a b : Bool) → ((c && a) && (c && b)) ≡ (c && (a && b))
 both_within true a b = refl
 both_within false a b = refl
 
-twice : (c a : Bool) → (c && (c && a)) ≡ (c && a)
-twice true a = refl
-twice false a = refl
-
 within_node : (n : ℕ) (a : Bool) (z : ℕ) → z < n → (ltb z n && a) ≡ a
 within_node n a z l = rw (lt-ltb z n l)
 
