@@ -1,10 +1,11 @@
+use Rattle.std.proofs.lemmas.Result.{err_from_is_err_and}
 use native.Mathlib.Omega.{arith}
 use mathlib.Core.Path.{refl}
 use Rattle.answers.proofs.Accepted.{page_tree, page_cursor, page_listed, page_refused, page_accepted}
 use Rattle.answers.proofs.page_from.Goals as goal
 
 pub returns-in_err-check_page : goal.returns-in_err-check_page
-returns-in_err-check_page c = page_refused _ _ _ _ _ _ c.in_err-check_page.ensures
+returns-in_err-check_page c = let p = err_from_is_err_and c.from_residual.result c.from_residual.ensures.1 in rw (p.1, p.2) (page_refused _ _ _ _ _ _ c.in_err-check_page.ensures)
 
 pub previous_siblings-prev-requires : goal.previous_siblings-prev-requires
 previous_siblings-prev-requires c = (page_tree _ _ _ _ _ _ c.in_ok-check_page.ensures refl).sound

@@ -1,7 +1,8 @@
 use native.Mathlib.Omega.{arith}
+use mathlib.Core.Path.{ap}
+use Rattle.std.specs.Prelude.{is_some}
 use Rattle.model.specs.Tree.{size_of}
 use Rattle.quick.specs.Search.{goes_on}
-use Rattle.quick.proofs.Opened.{few}
 use Rattle.quick.proofs.Search.{number_found, seeks_some}
 use Rattle.quick.proofs.Filling.{filling_node, filled_start, filled_few, filled_on, filled_whole}
 use Rattle.quick.proofs.fill.Goals as goal
@@ -13,13 +14,21 @@ pub lowest_from-t-requires : goal.lowest_from-t-requires
 lowest_from-t-requires c = let l = c.loop-j in (c.requires.0, (l.invariant.filling.nodes, (c.loop-j-test.true, (omega arith, omega (arith, filled_few c.requires.0 _ _ _ _ _ _ l.invariant, c.requires.1.1.1.1, c.requires.0.listed.searchable.linked.tree.sound.at_most)))))
 
 pub unwrap-requires : goal.unwrap-requires
-unwrap-requires c = ?
+unwrap-requires c = ap is_some (number_found _ c.lowest_from-t.result.number (filling_node c.requires.0 _ _ _ _ c.loop-j.invariant.filling c.loop-j-test.true _ c.lowest_from-t.ensures.1.0))
 
 pub overflow_cast-at : goal.overflow_cast-at
-overflow_cast-at c = ?
+overflow_cast-at c =
+    let s = c.args.search.now in
+    let l = c.loop-j in
+    let w = seeks_some (goes_on s.tree.now s.query.now s.k l.at l.j) 0 (size_of s.tree.now) l.evaluations c.lowest_from-t.result c.lowest_from-t.ensures c.unwrap.result c.unwrap.ensures in
+    record { fits = omega (arith, w.0, c.requires.0.listed.searchable.linked.tree.sound.at_most) }
 
 pub loop-j-preserved : goal.loop-j-preserved
-loop-j-preserved c = ?
+loop-j-preserved c =
+    let s = c.args.search.now in
+    let l = c.loop-j in
+    let w = seeks_some (goes_on s.tree.now s.query.now s.k l.at l.j) 0 (size_of s.tree.now) l.evaluations c.lowest_from-t.result c.lowest_from-t.ensures c.unwrap.result c.unwrap.ensures in
+    filled_on c.requires.0 _ _ _ _ _ _ l.invariant c.loop-j-test.true _ _ w.1.0 w.1.1.0 w.1.1.1
 
 pub returns : goal.returns
 returns c = filled_whole c.requires.0 _ _ _ _ _ _ c.loop-j.invariant (omega (arith, c.loop-j-test.false))

@@ -1,10 +1,11 @@
+use Rattle.std.proofs.lemmas.Result.{err_from_is_err_and}
 use native.Mathlib.Omega.{arith}
 use mathlib.Core.Path.{refl}
 use Rattle.quick.proofs.Accepted.{quick_tree, quick_cursor, quick_ready, leaves_refused, leaves_accepted}
 use Rattle.quick.proofs.page_from.Goals as goal
 
 pub returns-in_err-check_quick : goal.returns-in_err-check_quick
-returns-in_err-check_quick c = leaves_refused _ _ _ _ _ _ c.in_err-check_quick.ensures
+returns-in_err-check_quick c = let p = err_from_is_err_and c.from_residual.result c.from_residual.ensures.1 in rw (p.1, p.2) (leaves_refused _ _ _ _ _ _ c.in_err-check_quick.ensures)
 
 pub previous_siblings-prev-requires : goal.previous_siblings-prev-requires
 previous_siblings-prev-requires c = (quick_tree _ _ _ _ _ _ c.in_ok-check_quick.ensures refl).sound
