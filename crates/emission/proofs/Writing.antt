@@ -7,27 +7,13 @@ use mathlib.Core.Bool.{Bool, true, false, not, ◌&&◌, cond}
 use mathlib.Core.List.{List, [], ◌∷◌, ◌++◌}
 use lib.ListN.{get_or, drop}
 use lib.Dec.{leb, ltb, eqb}
-use borrow.Author.Tests.{ltb-true, lt-ltb, le-ltb, ne_eqb}
+use borrow.Author.Tests.{ltb-true, le-ltb, ne_eqb}
 use Rattle.model.proofs.Booleans.{yes_left}
 use Rattle.machine.specs.Machine.{top, binds, pops, sort, stack_of}
 use Rattle.machine.proofs.Steps.{Closed, closed_start, closed_on, next_gap}
 use Rattle.entries.specs.Postfix.{Item, Made, append_all, Sound, Wrote}
 use Rattle.entries.proofs.Postfix.{append_all_append, wrote_on}
 use Rattle.emission.specs.Items.{as_test, joints, gap_item, gap_items, close_items, pending, word_level, wants_test, last_items, closing_items, have_items, end_items}
-
--- items by cases
-module _ (x y : List Item) (m n : Made) where
-  pub when : (t : Bool) → Wrote x m n → t ≡ true → Wrote (cond t x y) m n
-  when t w h = rw h w
-
-  pub unless : (t : Bool) → Wrote y m n → t ≡ false → Wrote (cond t x y) m n
-  unless t w h = rw h w
-
-  pub when_less : (i j : ℕ) → Wrote x m n → i < j → Wrote (cond (ltb i j) x y) m n
-  when_less i j w h = when (ltb i j) w (lt-ltb i j h)
-
-  pub unless_less : (i j : ℕ) → Wrote y m n → j ≤ i → Wrote (cond (ltb i j) x y) m n
-  unless_less i j w h = unless (ltb i j) w (le-ltb i j h)
 
 pub wrote_two : (i j : Item) (m n o : Made) → Wrote (i ∷ []) m n → Wrote (j ∷ []) n o → Wrote (i ∷ j ∷ []) m o
 wrote_two i j m n o v w = wrote_on (i ∷ []) (j ∷ []) m n o v w

@@ -5,6 +5,7 @@ ghost use Rattle.std.specs.Prelude.{◌≡◌, cond, Ok, ltb, ◌+◌, ◌-◌, 
 ghost use Rattle.machine.specs.Machine.{mv, takes, slashes, binds, pops, sort, top, stack_of, letter_focus, want_may, want_move, slash_move, have_flags, have_may, bracket_focus, close_move, join_move, have_move, want_turn, letter_turn, axis_turn, have_turn, turn_of, may_end};
 
 // A step of the reading: the new focus, how many gaps close, and the gap that opens, or 14 (specs/Machine.antt).
+// By number: gaps stand in the bytes of a stack that is written even where none opens, and are told apart by their order, as focuses are.
 #[derive(Clone, Copy)]
 pub struct Move {
     pub focus: u8,

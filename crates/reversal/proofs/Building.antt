@@ -1,12 +1,12 @@
 -- Laws for the builder of the query turned round: terms written part by part, and what an entry comes to when it is reversed.
-use Prim.Native.Nat.{ℕ, zero, suc, ◌*◌, ◌≤◌, ◌<◌}
+use Prim.Native.Nat.{ℕ, ◌*◌, ◌≤◌, ◌<◌}
 use native.Mathlib.Nat.{eq-or-lt_of_le}
 use native.Mathlib.Omega.{arith}
 use mathlib.Core.Path.{◌≡◌, refl, sym, ap, ◌∙◌, subst}
 use mathlib.Core.Logic.{⊎_elim}
 use mathlib.Core.Bool.{true, false}
 use mathlib.Core.List.{List, [], ◌∷◌, ◌++◌, append_assoc}
-use lib.ListN.{length, get_or, take}
+use lib.ListN.{take}
 use Rattle.model.specs.declared.Entry.{Entry}
 use Rattle.model.specs.declared.kind.Kind.{Kind}
 use Rattle.model.specs.Numbers.{kind_number}
@@ -18,7 +18,7 @@ use Rattle.model.specs.Kinds.{is_path, left_path, left_expr, right_path, right_e
 use Rattle.model.proofs.Booleans.{no_yes}
 use Rattle.model.proofs.KindTests.{path_on_left, path_on_right}
 use Rattle.model.proofs.QueryTable.{at_step, at_compose, at_union, at_intersect, at_except, at_filter, at_variable, at_root, at_closure}
-use Rattle.model.proofs.Formed.{PathBefore, Read, read, left_lower, right_lower}
+use Rattle.model.proofs.Formed.{PathBefore, Read, read}
 use Rattle.model.proofs.Formed.Read.{step!, compose!, union!, intersect!, except!, filter!, variable!, root!, exists!, negate!, both!, either!, is!, closure!, same! }
 use Rattle.aside.specs.Aside.{term_at}
 use Rattle.aside.proofs.Terms.{Form, form}
@@ -26,7 +26,7 @@ use Rattle.aside.proofs.Terms.Form.{none!, one!, two! }
 use Rattle.entries.specs.declared.Draft.{Draft}
 use Rattle.entries.specs.Postfix.{Item, Made, postfix, append_all, made, blank, Sound, Wrote}
 use Rattle.entries.proofs.Postfix.{wrote_on, built, entries_counted}
-use Rattle.reversal.specs.Reversed.{converses, converse, self_at_root, reversed}
+use Rattle.reversal.specs.Reversed.{converse, self_at_root, reversed}
 use Rattle.reversal.specs.Building.{Reversible, Builds, BuildsPath, step_items, root_items, where_term, reversed_at, Makes}
 
 -- terms from their parts, the last one first
@@ -90,16 +90,6 @@ builds_root m n o r s t w x y v u =
     let a = builds_unary 8 (Term.leaf 0 2 65534) n o r y v in
     let b = builds_unary 9 (Term.unary 8 (Term.leaf 0 2 65534)) n r s x a in
     builds_binary 5 (Term.leaf 0 0 65534) (Term.unary 9 (Term.unary 8 (Term.leaf 0 2 65534))) m n s t w b u
-
--- the converse of an axis, from the table; what stands for a number past its end is of no account
-known_at : (l : List ℕ) (i a b : ℕ) → i < length l → get_or l i a ≡ get_or l i b
-known_at [] i a b h = absurd (omega arith)
-known_at (x ∷ xs) zero a b h = refl
-known_at (x ∷ xs) (suc i) a b h = known_at xs i a b (omega arith)
-
-pub known_converse : (a : ℕ) → a ≤ 12 → get_or converses a 0 ≡ converse a
-unfolding converse
-known_converse a h = known_at converses a 0 13 (omega arith)
 
 -- the kinds that have an arm of their own when a path is reversed
 pub record Others (k : Kind) : Type 0 where
@@ -236,17 +226,6 @@ module _ (q : List ℕ) (ok : Reversible q) (e : ℕ) (within : e < entries_of q
 
     pub tag_fits : tag q e < 65536 → f.tag < 65536
     tag_fits h = numbers (λ (g : Entry). g.tag < 65536) h
-
-    pub axis_known : f.kind ≡ 0 → f.left ≤ 12
-    axis_known = numbers (λ (g : Entry). g.kind ≡ 0 → g.left ≤ 12) (ok.axis e within)
-
-    -- its copy
-
-    pub copied_left : true ≡ has_left f.kind → f.left < e
-    copied_left h = numbers (λ (g : Entry). has_left g.kind ≡ true → g.left < e) (left_lower q ok.formed e within) (sym h)
-
-    pub copied_right : true ≡ has_right f.kind → f.right < e
-    copied_right h = numbers (λ (g : Entry). has_right g.kind ≡ true → g.right < e) (right_lower q ok.formed e within) (sym h)
 
     -- k is its kind, as it was decoded
     module _ (k : ℕ) (is : k ≡ f.kind) where

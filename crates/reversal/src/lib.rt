@@ -9,6 +9,7 @@ ghost use Rattle.std.specs.Prelude.{◌≡◌, cond, true, ◌≤◌, ◌<◌, l
 ghost use Rattle.model.specs.Syntax.Path.{step, variable};
 ghost use Rattle.model.specs.QueryTable.{entries_of, kind, last_of};
 ghost use Rattle.model.specs.Kinds.{is_path};
+ghost use Rattle.model.specs.Numbers.{axis_number};
 ghost use Rattle.model.specs.Encoding.Term.{leaf};
 ghost use Rattle.model.specs.Services.{Leaves};
 ghost use Rattle.model.specs.Refusals.{told_making};
@@ -20,42 +21,60 @@ ghost use Rattle.reversal.specs.Building.{Reversible, Builds, BuildsPath, step_i
 ghost use Rattle.reversal.specs.Service.{reversed_query, reversal};
 
 use entries::Builder;
-use model::{Kind, Refusal};
+use model::{Axis, Kind, Refusal};
 
 // The test that every node passes.
 const NODE: u16 = 65534;
 
-const CONVERSES: [u16; 13] = [0, 2, 1, 4, 3, 6, 5, 8, 7, 10, 9, 12, 11];
-
 // The converse of an axis.
-fn converse_axis(a: usize) -> u16
-    requires { a ≤ 12 }
-    ensures { result ≡ converse a }
+#[tactic(auto, unfolding(crate::specs::Reversed::converse))]
+fn converse_axis(axis: Axis) -> Axis
+    ensures { axis_number result ≡ converse (axis_number axis) }
 {
-    CONVERSES[a]
+    match axis {
+        Axis::Itself => Axis::Itself,
+        Axis::Child => Axis::Parent,
+        Axis::Parent => Axis::Child,
+        Axis::Right => Axis::Left,
+        Axis::Left => Axis::Right,
+        Axis::Descendant => Axis::Ancestor,
+        Axis::Ancestor => Axis::Descendant,
+        Axis::Following => Axis::Preceding,
+        Axis::Preceding => Axis::Following,
+        Axis::FollowingSibling => Axis::PrecedingSibling,
+        Axis::PrecedingSibling => Axis::FollowingSibling,
+        Axis::DescendantOrSelf => Axis::AncestorOrSelf,
+        Axis::AncestorOrSelf => Axis::DescendantOrSelf,
+    }
+}
+
+// The number of an axis in a table.
+fn number_of(axis: Axis) -> u16
+    ensures { result ≡ axis_number axis }
+{
+    axis as u16
 }
 
 // A step.
-fn put_step(axis: u16, tag: u16, b: &mut Builder)
-    ensures { Builds (leaf 0 axis tag) (made_of b.old) (made_of b.new) }
+fn put_step(axis: Axis, tag: u16, b: &mut Builder)
+    ensures { Builds (leaf 0 (axis_number axis) tag) (made_of b.old) (made_of b.new) }
 {
-    b.put_leaf(Kind::Step, axis, tag);
+    b.put_leaf(Kind::Step, number_of(axis), tag);
 }
 
 // The path before, composed with a step to any node.
-fn join_step(axis: u16, b: &mut Builder)
-    ensures { Wrote (step_items axis) (made_of b.old) (made_of b.new) }
+fn join_step(axis: Axis, b: &mut Builder)
+    ensures { Wrote (step_items (axis_number axis)) (made_of b.old) (made_of b.new) }
 {
     put_step(axis, NODE, b);
     b.put_binary(Kind::Compose);
 }
 
 // A step reversed: self with its test, then the converse axis.
-fn reverse_step(axis: usize, tag: u16, b: &mut Builder)
-    requires { axis ≤ 12 }
-    ensures { BuildsPath (reversed (step axis tag)) (made_of b.old) (made_of b.new) }
+fn reverse_step(axis: Axis, tag: u16, b: &mut Builder)
+    ensures { BuildsPath (reversed (step (axis_number axis) tag)) (made_of b.old) (made_of b.new) }
 {
-    put_step(0, tag, b);
+    put_step(Axis::Itself, tag, b);
     join_step(converse_axis(axis), b);
 }
 
@@ -63,19 +82,19 @@ fn reverse_step(axis: usize, tag: u16, b: &mut Builder)
 fn reverse_variable(k: u16, b: &mut Builder)
     ensures { BuildsPath (reversed (variable k)) (made_of b.old) (made_of b.new) }
 {
-    put_step(0, NODE, b);
+    put_step(Axis::Itself, NODE, b);
     b.put_leaf(Kind::Is, k, 0);
     b.put_binary(Kind::Filter);
-    join_step(12, b);
-    join_step(11, b);
+    join_step(Axis::AncestorOrSelf, b);
+    join_step(Axis::DescendantOrSelf, b);
 }
 
 // The root: self::node()[not(parent::node())].
 fn put_root(b: &mut Builder)
     ensures { BuildsPath self_at_root (made_of b.old) (made_of b.new) }
 {
-    put_step(0, NODE, b);
-    put_step(2, NODE, b);
+    put_step(Axis::Itself, NODE, b);
+    put_step(Axis::Parent, NODE, b);
     b.put_unary(Kind::Exists);
     b.put_unary(Kind::Not);
     b.put_binary(Kind::Filter);
@@ -87,7 +106,7 @@ fn join_root(b: &mut Builder)
 {
     put_root(b);
     b.put_binary(Kind::Compose);
-    join_step(11, b);
+    join_step(Axis::DescendantOrSelf, b);
 }
 
 // A copy of entry e with all that it is made of. One call an entry, as deep as the entry nests.
@@ -115,7 +134,7 @@ fn put_where(query: &[u16], e: usize, b: &mut Builder)
     requires { Reversible query.now × (e < entries_of query.now) }
     ensures { Builds (where_term query.now e) (made_of b.old) (made_of b.new) }
 {
-    put_step(0, NODE, b);
+    put_step(Axis::Itself, NODE, b);
     copy(query, e, b);
     b.put_binary(Kind::Filter);
 }
@@ -127,7 +146,7 @@ fn reverse_path(query: &[u16], e: usize, b: &mut Builder)
 {
     let f = query::entry_at(query, e);
     match model::kind_of(f.kind) {
-        Kind::Step => reverse_step(f.left, f.tag as u16, b),
+        Kind::Step => reverse_step(model::axis_of(f.left), f.tag as u16, b),
         Kind::Compose => {
             let (first, second) = (f.right, f.left);
             reverse_path(query, first, b);

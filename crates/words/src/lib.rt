@@ -4,7 +4,8 @@
 ghost use Rattle.std.specs.Prelude.{◌≡◌, cond, ◌+◌, ◌-◌, ◌*◌, ◌≤◌, ◌<◌, length, take, drop};
 ghost use Rattle.words.specs.Words.{common, slot, greater, scan_from, word_table};
 
-// A text beside a place in it. The functions over it are thin: they take it apart, or make it, and call one on slice and number.
+// A text beside a place in it, as docs/TRACEABILITY.md has it. The functions over it are thin: they take it apart, or make it, and call
+// one on slice and number.
 #[derive(Drop)]
 pub struct Reader<'a> {
     pub text: &'a [u8],

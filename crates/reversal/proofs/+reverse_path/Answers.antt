@@ -69,7 +69,7 @@ reverse_path-requires-in_default-2 t c =
 -- what each arm writes is the path reversed
 
 pub returns-in-Step : goal.returns-in-Step
-returns-in-Step t c = reverses_step _ c.requires.0 _ c.requires.1.0 _ c.entry_at-f.ensures.0 _ _ c.reverse_step.ensures c.in-Step.ensures
+returns-in-Step t c = reverses_step _ c.requires.0 _ c.requires.1.0 _ c.entry_at-f.ensures.0 _ _ (rw c.axis_of.ensures at c.reverse_step.ensures) c.in-Step.ensures
 
 pub returns-in-Compose : goal.returns-in-Compose
 returns-in-Compose t c = reverses_compose _ c.requires.0 _ c.requires.1.0 _ c.entry_at-f.ensures.0 _ _ _ _ c.put_binary.ensures c.reverse_path-in-Compose.ensures c.reverse_path.ensures c.in-Compose.ensures
