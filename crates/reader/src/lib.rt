@@ -14,6 +14,14 @@ use entries::Builder;
 use machine::Word;
 use model::{Read, Refusal};
 
+// What a text is read by: its bytes, and the two name tables.
+#[derive(Clone, Copy)]
+pub struct Source<'a> {
+    pub text: &'a [u8],
+    pub house: &'a [u8],
+    pub site: &'a [u8],
+}
+
 // How far the reading has come: the place in the text; the gaps that are open, and the focus; the axis that was read last, and
 // the place where the last name begins; and the place of the first name that had no tag, if one had none.
 #[derive(Clone, Copy)]
@@ -49,9 +57,9 @@ fn first_place() -> Progress
 
 // The name that ends at the place, if one does.
 #[tactic(auto, unfolding(crate::specs::Turns::sought_at))]
-fn name_before(text: &[u8], house: &[u8], site: &[u8], p: Progress, ended: bool) -> Sought
-    requires { (p.start ≤ p.at) × (p.at ≤ length text.now) }
-    ensures { result ≡ sought_at text.now house.now site.now p ended }
+fn name_before(from: &Source, p: Progress, ended: bool) -> Sought
+    requires { (p.start ≤ p.at) × (p.at ≤ length from.now.text.now) }
+    ensures { result ≡ sought_at from.now.text.now from.now.house.now from.now.site.now p ended }
 {
     let named = (5 < p.focus) & ended;
     if !named {
@@ -60,7 +68,7 @@ fn name_before(text: &[u8], house: &[u8], site: &[u8], p: Progress, ended: bool)
             unknown: p.unknown,
         };
     }
-    match names::tag_of(house, site, &text[p.start..p.at]) {
+    match names::tag_of(from.house, from.site, &from.text[p.start..p.at]) {
         Some(tag) => Sought {
             tag: tag,
             unknown: p.unknown,
@@ -103,21 +111,13 @@ fn place_after(p: Progress, w: Word, depth: usize, s: Sought) -> Progress
 }
 
 // Reads a word: the name before it is looked up, the entries that it completes are written, gaps close, and one may open.
-fn take_word(
-    text: &[u8],
-    house: &[u8],
-    site: &[u8],
-    stack: &mut [u8],
-    b: &mut Builder,
-    p: Progress,
-    w: Word,
-) -> Progress
-    requires { (p.start ≤ p.at) × (p.at + w.len ≤ length text.now) × (length text.now ≤ 1024) × (p.depth ≤ p.at) × (p.at < 1024) × (w.number < 38) × (length stack.old ≡ 1024) }
-    ensures { Took text.now house.now site.now p stack.old (made_of b.old)
+fn take_word(from: &Source, stack: &mut [u8], b: &mut Builder, p: Progress, w: Word) -> Progress
+    requires { (p.start ≤ p.at) × (p.at + w.len ≤ length from.now.text.now) × (length from.now.text.now ≤ 1024) × (p.depth ≤ p.at) × (p.at < 1024) × (w.number < 38) × (length stack.old ≡ 1024) }
+    ensures { Took from.now.text.now from.now.house.now from.now.site.now p stack.old (made_of b.old)
         w.number w.step w.len result stack.new (made_of b.new) }
 {
     let k = w.number;
-    let s = name_before(text, house, site, p, k < 34);
+    let s = name_before(from, p, k < 34);
     emission::write_word(&stack[..p.depth], p.focus, k, p.axis, s.tag, b);
     let depth = machine::make(w.step, stack, p.depth);
     place_after(p, w, depth, s)
@@ -125,21 +125,19 @@ fn take_word(
 
 // One turn: the reading goes on, or no grammatical text goes on from a place.
 fn advance(
-    text: &[u8],
-    house: &[u8],
-    site: &[u8],
+    from: &Source,
     stack: &mut [u8],
     b: &mut Builder,
     p: Progress,
 ) -> Result<Progress, Refusal>
-    requires { Within p.at (length text.now) (turn_at text.now p stack.old) × (p.at < length text.now) × (length text.now ≤ 1024) × (p.start ≤ p.at) × (p.depth ≤ p.at) × (length stack.old ≡ 1024) }
-    ensures { Advanced text.now house.now site.now p stack.old (made_of b.old)
-        (turn_at text.now p stack.old)
+    requires { Within p.at (length from.now.text.now) (turn_at from.now.text.now p stack.old) × (p.at < length from.now.text.now) × (length from.now.text.now ≤ 1024) × (p.start ≤ p.at) × (p.depth ≤ p.at) × (length stack.old ≡ 1024) }
+    ensures { Advanced from.now.text.now from.now.house.now from.now.site.now p stack.old (made_of b.old)
+        (turn_at from.now.text.now p stack.old)
         result stack.new (made_of b.new) }
 {
     let at = p.at;
-    match machine::step(p.focus, &stack[..p.depth], text, at) {
-        Ok(w) => Ok(take_word(text, house, site, stack, b, p, w)),
+    match machine::step(p.focus, &stack[..p.depth], from.text, at) {
+        Ok(w) => Ok(take_word(from, stack, b, p, w)),
         Err(n) => Err(Refusal::Ungrammatical((at + n) as u16)),
     }
 }
@@ -160,35 +158,28 @@ fn judge(at: usize, grammatical: bool, unknown: Option<usize>) -> Result<(), Ref
 }
 
 // The end of the text: a last name is looked up, and all gaps close.
-fn finish(
-    text: &[u8],
-    house: &[u8],
-    site: &[u8],
-    stack: &[u8],
-    b: &mut Builder,
-    p: Progress,
-) -> Result<(), Refusal>
-    requires { (p.start ≤ p.at) × (p.at ≤ length text.now) × (length text.now ≤ 1024) × (p.depth ≤ length stack.now) × (place_in p.unknown ≤ p.at) }
-    ensures { Finished text.now house.now site.now p stack.now (made_of b.old)
+fn finish(from: &Source, stack: &[u8], b: &mut Builder, p: Progress) -> Result<(), Refusal>
+    requires { (p.start ≤ p.at) × (p.at ≤ length from.now.text.now) × (length from.now.text.now ≤ 1024) × (p.depth ≤ length stack.now) × (place_in p.unknown ≤ p.at) }
+    ensures { Finished from.now.text.now from.now.house.now from.now.site.now p stack.now (made_of b.old)
         result (made_of b.new) }
 {
     let gaps = &stack[..p.depth];
-    let s = name_before(text, house, site, p, true);
+    let s = name_before(from, p, true);
     emission::write_end(gaps, p.focus, p.axis, s.tag, b);
     judge(p.at, machine::may_end(p.focus, gaps), s.unknown)
 }
 
 // Reads a text of at most 1,024 bytes into a table of 64 entries: 24 and 25. One turn a word, and one a byte of a name.
-fn read_text(text: &[u8], house: &[u8], site: &[u8], b: &mut Builder) -> Result<(), Refusal>
-    requires { (length text.now ≤ 1024) × ((made_of b.old).draft ≡ blank) }
-    ensures { ReadsTo text.now house.now site.now result (made_of b.new) }
+fn read_text(from: &Source, b: &mut Builder) -> Result<(), Refusal>
+    requires { (length from.now.text.now ≤ 1024) × ((made_of b.old).draft ≡ blank) }
+    ensures { ReadsTo from.now.text.now from.now.house.now from.now.site.now result (made_of b.new) }
 {
     let mut stack = [0u8; 1024];
     let mut p = first_place();
-    while p.at < text.len() {
-        p = advance(text, house, site, &mut stack, b, p)?;
+    while p.at < from.text.len() {
+        p = advance(from, &mut stack, b, p)?;
     }
-    finish(text, house, site, &stack, b, p)
+    finish(from, &stack, b, p)
 }
 
 // The text is not 1 to 1,024 bytes long.
@@ -204,7 +195,7 @@ fn read_table(text: &[u8], house: &[u8], site: &[u8], query: &mut [u16]) -> Resu
     ensures { TableLeaves text.now house.now site.now query.old (told_read result) query.new }
 {
     let mut b = Builder::new();
-    read_text(text, house, site, &mut b)?;
+    read_text(&Source { text, house, site }, &mut b)?;
     let d = b.draft();
     entries::check_size(d.entries, query.len())?;
     let count = 4 * d.entries;

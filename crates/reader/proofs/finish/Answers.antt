@@ -13,7 +13,7 @@ pub judge-requires : goal.judge-requires
 judge-requires c =
     let a = c.args in
     let l : place_in c.name_before-s.result.unknown ≤ a.p.at =
-    subst (λ (s : Sought). place_in s.unknown ≤ a.p.at) (sym c.name_before-s.ensures) (place_most a.house.now a.site.now a.text.now a.p true c.requires.4 c.requires.0) in
+    subst (λ (s : Sought). place_in s.unknown ≤ a.p.at) (sym c.name_before-s.ensures) (place_most a.from.now.house.now a.from.now.site.now a.from.now.text.now a.p true c.requires.4 c.requires.0) in
     (omega arith, omega arith)
 
 pub returns : goal.returns

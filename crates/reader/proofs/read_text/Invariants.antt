@@ -5,7 +5,7 @@ use Rattle.reader.proofs.Keeping.{Kept}
 use Rattle.reader.proofs.read_text.Given as goal
 
 abbrev pub invariant-loop-p : goal.invariant-loop-p
-invariant-loop-p l = Kept l.text l.house l.site (made_of l.initial.b) l.p l.stack (made_of l.b)
+invariant-loop-p l = Kept l.from.text.now l.from.house.now l.from.site.now (made_of l.initial.b) l.p l.stack (made_of l.b)
 
 abbrev pub decreases-loop-p : goal.decreases-loop-p
-decreases-loop-p l = length l.text - l.p.at
+decreases-loop-p l = length l.from.text.now - l.p.at
