@@ -17,7 +17,7 @@ CLAUSE = re.compile(r"^ +(?:requires|ensures)\b", re.M)
 RESULT = "result"
 # the definitions that turn what a service returns into C's reply, or into a lent cursor at exit; none of them loses anything
 # (crates/model/proofs/Refusals.antt: told_once)
-READINGS = {"told", "told_making", "told_counting", "told_page", "told_quick", "told_read", "told_index", "cursor_after", "cursor_after_quick"}
+READINGS = {"told", "told_making", "told_counting", "told_page", "told_quick", "told_read", "told_index", "opened", "cursor_after", "cursor_after_quick"}
 
 
 def term(text):

@@ -16,7 +16,7 @@ EXPORTED = re.compile(r'\bextern "C" fn\b|^ *#\[.*\b(?:no_mangle|export_name)\b'
 WORD = re.compile(r"[^\s(){};,]+")
 CLAUSE = re.compile(r"^    (requires|ensures)\b", re.M)
 TYPE = re.compile(r"(?:\b(\w+)::)?\b([A-Z]\w*)")
-SIGNATURE = re.compile(r"\bfn \w+(?:<(?:->|<[^<>]*>|[^<>])*>)?\((.*?)\)(?: -> ([^{]*?))?\s*(?=requires\b|ensures\b|$)", re.S)
+SIGNATURE = re.compile(r"\bfn \w+(?:<(?:->|<[^<>]*>|[^<>])*>)?\((.*?)\)(?: -> ([^{]*?))?\s*(?=ghost\b|requires\b|ensures\b|where\b|$)", re.S)
 USED = re.compile(r"^(?:pub )?use (\w+)::(?:\w+::)*(?:(\w+)|\{([\w, \n]*)\});", re.M)
 OF_STD = {"Result", "Option", "Ok", "Err", "Some", "None", "Self"}
 UNTYPED = re.compile(r'^#\[.*|^ +[A-Z]\w*|"C"', re.M)  # an attribute, the name of a case, the name of a calling convention
