@@ -1,10 +1,9 @@
--- What an entry asks for that either engine can evaluate, and what its table comes to as bytes.
-use Prim.Native.Nat.{ℕ, ◌*◌, ◌≤◌}
+-- What the table of an entry comes to as bytes.
+use Prim.Native.Nat.{ℕ, ◌≤◌}
 use native.Mathlib.Omega.{arith}
 use mathlib.Core.Path.{◌≡◌, ◌∙◌}
 use mathlib.Core.Bool.{Bool}
 use mathlib.Core.List.{List}
-use lib.ListN.{length, get_or}
 use borrow.Author.Tests.{lt-ltb}
 use Rattle.model.specs.Sets.{tab, memb, upto, turn, image}
 use Rattle.model.specs.Tree.{size_of}
@@ -15,28 +14,7 @@ use Rattle.bits.specs.BitTables.{bit_relation}
 use Rattle.bits.specs.Rows.{Becomes}
 use Rattle.tables.proofs.Rows.{row_bit_lem}
 use Rattle.eval.specs.Evaluation.{passed, reached}
-use Rattle.aside.specs.Aside.{Counts}
-use Rattle.relations.specs.Evaluation.{Asks, table_at, passed_bits}
-use Rattle.engines.specs.Engines.{Suits}
-
-module _ {t prev q nodes : List ℕ} {e : ℕ} {path : Bool} (s : Suits t prev q nodes e path) where
-  pub small : size_of t ≤ 256
-  small = s.ready.linked.tree.sound.at_most
-
-  module _ {counts : List ℕ} (c : Counts q counts) where
-    pub counted_five : get_or counts e 0 ≤ 5
-    counted_five = omega (arith, c.at e s.kinds.within, s.five)
-
-    -- what the evaluation over tables asks for, with room for so many of them
-    pub suits_table : {acc : List ℕ} (room : ℕ) → get_or counts e 0 ≤ room → 4 * size_of t ≤ length acc → Asks t prev q nodes counts room e path 0 acc
-    suits_table room l h = record {
-      ready = s.ready;
-      few = s.few;
-      counted = c;
-      kinds = s.kinds;
-      table = h;
-      fits = omega (arith, c.at e s.kinds.within);
-    }
+use Rattle.relations.specs.Evaluation.{table_at, passed_bits}
 
 module _ (t q nodes : List ℕ) (e : ℕ) (le : size_of t ≤ 256) (r : List ℕ) where
   pub did_image : (back : Bool) (from w o : List ℕ) → r ≡ tab 256 (image (size_of t) (turn back (bit_relation o)) (memb from)) → Becomes (size_of t) (table_at t q nodes e) w o → r ≡ reached t q nodes e back from

@@ -42,9 +42,6 @@ module _ (w s : List ℕ) where
     unfolding joined_rows
     rows_skip h = p ∙ words_cong 4 _ _ (λ y l. sym (sym (any_next x (λ z. memb s z && bit_relation w z y) _ refl) ∙ rw (memb_no s x h)))
 
-    pub rows_end : (n : ℕ) → x ≤ n → n ≤ x → r ≡ words 4 (joined_rows n (bit_relation w) s)
-    rows_end n a b = p ∙ ap (λ (k : ℕ). words 4 (joined_rows k (bit_relation w) s)) (omega arith)
-
 -- the first row of a table of one
 first_row : (w : List ℕ) (y : ℕ) → bit_relation w 0 y ≡ has_bit w y
 unfolding bit_relation

@@ -15,7 +15,6 @@ use Rattle.model.specs.Numbers.{kind_number}
 use Rattle.model.specs.Tree.{size_of}
 use Rattle.model.specs.QueryTable.{kind, left, right, entry}
 use Rattle.model.specs.Kinds.{is_path, left_path, left_expr, right_path, right_expr, has_left, has_right}
-use Rattle.model.specs.Results.{assigned}
 use Rattle.model.proofs.Booleans.{both_yes, or_left, or_right, yes_left, yes_right}
 use Rattle.model.proofs.KindTests.{path_on_left, path_on_right}
 use Rattle.eval.proofs.Calls.{other_kind, Operand, same_on_both, left_path_lem, right_path_lem, left_expr_lem, right_expr_lem}
@@ -190,8 +189,3 @@ module _ {t prev q nodes counts : List ℕ} {room e : ℕ} {turned : Bool} {acc 
 
   pub straight_right : cond turned f.left f.right ≡ f.right
   straight_right = rw straight
-
--- the node of a variable, as it is read
-pub assigned_is : (nodes : List ℕ) (k v : ℕ) → v ≡ get_or nodes k 0 → v ≡ assigned nodes k
-unfolding assigned
-assigned_is nodes k v p = p

@@ -2,20 +2,19 @@
 use Prim.Native.Nat.{ℕ, ◌+◌, ◌*◌, ◌/◌, ◌%◌, ◌^◌, ◌≤◌, ◌<◌}
 use native.Mathlib.Omega.{arith}
 use mathlib.Core.Path.{◌≡◌, refl}
-use mathlib.Core.Bool.{true, false}
+use mathlib.Core.Bool.{false}
 use mathlib.Core.List.{List, ◌++◌}
 use lib.ListN.{length, get_or, drop}
 use borrow.Author.Tests.{ltb-false}
 use Rattle.model.specs.declared.Reply.{Reply}
 use Rattle.model.specs.Sets.{upto}
-use Rattle.model.specs.Tree.{tree_of, size_of}
+use Rattle.model.specs.Tree.{size_of}
 use Rattle.model.specs.QueryTable.{last_of}
 use Rattle.model.specs.Results.{related}
 use Rattle.model.specs.Refusals.{verdict, written}
 use Rattle.model.specs.Checks.{room_checks}
 use Rattle.model.proofs.Refusals.{Passes, numbered, accepted, written_over}
 use Rattle.checks.proofs.Verdicts.{zero_of}
-use Rattle.tree.specs.Links.{PreviousSiblings}
 use Rattle.checks.specs.Tables.{Tables}
 use Rattle.checks.proofs.Accepted.{front}
 use Rattle.aside.specs.Aside.{Counts, aside_at}
@@ -24,7 +23,7 @@ use Rattle.bits.specs.BitTables.{bit_cell, bit_table}
 use Rattle.bits.specs.Rows.{Becomes}
 use Rattle.bits.proofs.Words.{length_words}
 use Rattle.bits.proofs.Rows.{as_words}
-use Rattle.relations.specs.Evaluation.{Asks, table_at}
+use Rattle.relations.specs.Evaluation.{table_at}
 use Rattle.relations.specs.Services.{bit_pairs_checks, pairs_words}
 
 -- no accepted query needs more than five tables aside
@@ -34,18 +33,6 @@ tables_five t q nodes a = five_aside q a.shaped (omega (arith, a.last)) a.once
 -- what the last entry keeps aside, as it is counted
 pub last_counted : (t q nodes counts : List ℕ) → Counts q counts → Tables t q nodes → get_or counts (last_of q) 0 ≡ aside_at q (last_of q)
 last_counted t q nodes counts c a = c.at (last_of q) a.last
-
--- what the last entry asks for, with room for so many tables
-pub ask_last : (t prev q nodes counts acc : List ℕ) (room : ℕ) → Tables t q nodes → PreviousSiblings (tree_of t) (size_of t) prev → Counts q counts → get_or counts (last_of q) 0 ≤ room
-    → 4 * size_of t ≤ length acc → Asks t prev q nodes counts room (last_of q) true 0 acc
-ask_last t prev q nodes counts acc room a p c l h = record {
-  ready = record { linked = record { tree = a.tree; siblings = p }; query = a.query };
-  few = omega (arith, a.shaped.few);
-  counted = c;
-  kinds = record { within = a.last; sort = a.path };
-  table = h;
-  fits = omega (arith, last_counted t q nodes counts c a);
-}
 
 -- the words of the table that was made
 pub did_pairs : (t q nodes w o : List ℕ) → Becomes (size_of t) (table_at t q nodes (last_of q)) w o → 4 * size_of t ≤ length w → ((i : ℕ) → get_or o i 0 < 2 ^ 64)

@@ -41,6 +41,7 @@ fn operation(kind: Kind) -> Operation
 
 impl<'a> Evaluation<'a> {
     // The node of variable k.
+    #[tactic(auto, unfolding(model::specs::Results::assigned))]
     fn variable(&self, k: usize) -> usize
         requires { k < length self.now.call.now.nodes.now }
         ensures { result ≡ assigned self.now.call.now.nodes.now k }
