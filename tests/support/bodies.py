@@ -20,6 +20,7 @@ LOOPS = {"while", "for", "loop"}
 BLOCKS = LOOPS | {"if", "else"}
 WORDS = {"as", "true", "false", "mut"}  # keywords that a value may have
 LEAVES = {"return", "break", "continue"}
+METHODS = {"len", "fill"}  # the methods that are read: of a slice its length, and a part of it written over
 KEYWORDS = BLOCKS | WORDS | LEAVES | {"let", "in", "match", "use", "fn", "const"}
 
 
@@ -73,7 +74,7 @@ def calls(tokens):
         if behind == ["("] and NAME.fullmatch(token.split("::")[-1]) and token not in KEYWORDS:
             if before != ".":
                 found.append(Call(tokens, i))
-            elif token != "len":
+            elif token not in METHODS:
                 raise Fault("the method %s" % token)
     return found
 

@@ -1,6 +1,6 @@
 """Where functions write the bytes that they are lent.
 
-A *writer* is a function that is lent bytes to write. A *place* is an index that it writes at, an end of a part that it lends,
+A *writer* is a function that is lent bytes to write. A *place* is an index that it writes at, an end of a part that it lends or fills,
 what it hands another writer that makes a place of it, and what one of these is compared with; and for each local that is read
 there, what it starts from and what it grows by. A *bound* is an end of a loop, and what is handed to another writer that makes a
 bound of it; and the value of each local that is read there, or in what a place grows by."""
@@ -94,7 +94,7 @@ class Writer:
         return {n for n in some if local in self.made_from.get(n, ())} if local in some else set()
 
     def written_at(self):
-        """The indices that are written at, and the ends of the parts that are lent, as spans with their statements."""
+        """The indices that are written at, and the ends of the parts that are lent or filled, as spans with their statements."""
         for s in self.function.statements:
             if s.index:
                 yield s.index, s
@@ -103,6 +103,11 @@ class Writer:
                 if (i, end) not in [span for call, t, _ in self.calls if t is s for span in call.lent]:
                     raise Fault("%s has '%s', which cannot be followed" % (self.function.name, self.function.text(s.span)))
                 yield from ((span, s) for span in split(self.tokens, (i + 4, end - 1), ENDS))
+            for i in (i for i in range(*s.span) if self.tokens[i : i + 2] == [".", "fill"]):
+                start = next((a for a in range(s.span[0], i) if self.tokens[a] == "[" and closing(self.tokens, a) == i - 1), None)
+                if start is None:
+                    raise Fault("%s has '%s', which cannot be followed" % (self.function.name, self.function.text(s.span)))
+                yield from ((span, s) for span in split(self.tokens, (start + 1, i - 1), ENDS))
         yield from self.handed(lambda writer: writer.finds)
 
     def handed(self, locals_of):
