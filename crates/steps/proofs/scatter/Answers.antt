@@ -1,13 +1,10 @@
 use native.Mathlib.Omega.{arith}
 use Rattle.model.specs.Sets.{memb}
-use Rattle.steps.proofs.Loops.{part_start, part_store, part_skip, part_done, sends_below}
+use Rattle.steps.proofs.Loops.{part_start, part_store, part_skip, part_done}
 use Rattle.steps.proofs.scatter.Goals as goal
 
 pub loop-y-init : goal.loop-y-init
 loop-y-init c = part_start _ _ _ _
-
-pub bounds-r-p : goal.bounds-r-p
-bounds-r-p c = sends_below _ _ _ _ c.if-sends.true (omega arith)
 
 pub loop-y-preserved-then-sends : goal.loop-y-preserved-then-sends
 unfolding memb
