@@ -1,4 +1,5 @@
 use native.Mathlib.Omega.{arith}
+use borrow.Author.Rules.{rules}
 use mathlib.Core.Path.{refl}
 use Rattle.model.specs.Kinds.{left_path, right_path, right_expr}
 use Rattle.reversal.proofs.Building.{Others, path_left, path_right, test_right, two_before, reverses_step, reverses_variable, reverses_root, reverses_closure, reverses_filter, reverses_compose, reverses_two}
@@ -6,19 +7,22 @@ use Rattle.reversal.proofs.+reverse_path.Goals as goal
 
 -- the operands that are reversed or copied come before the entry, and are paths or tests
 
+-- whichever operand of a composition it is
 pub reverse_path-requires : goal.reverse_path-requires
-unfolding right_path
+unfolding left_path right_path
 reverse_path-requires t c =
     let p = c.requires in
-    let l = path_right _ p.0 _ p.1.0 _ c.entry_at-f.ensures.0 _ c.in-Compose.ensures refl in
-    (omega (arith, l.0), (p.0, (omega (arith, l.0), l.1)))
+    let l = path_left _ p.0 _ p.1.0 _ c.entry_at-f.ensures.0 _ c.in-Compose.ensures refl in
+    let r = path_right _ p.0 _ p.1.0 _ c.entry_at-f.ensures.0 _ c.in-Compose.ensures refl in
+    (omega (arith, l.0, r.0), (p.0, (omega (arith, l.0, r.0), search (rules, l.1, r.1))))
 
 pub reverse_path-requires-in-Compose : goal.reverse_path-requires-in-Compose
-unfolding left_path
+unfolding left_path right_path
 reverse_path-requires-in-Compose t c =
     let p = c.requires in
     let l = path_left _ p.0 _ p.1.0 _ c.entry_at-f.ensures.0 _ c.in-Compose.ensures refl in
-    (omega (arith, l.0), (p.0, (omega (arith, l.0), l.1)))
+    let r = path_right _ p.0 _ p.1.0 _ c.entry_at-f.ensures.0 _ c.in-Compose.ensures refl in
+    (omega (arith, l.0, r.0), (p.0, (omega (arith, l.0, r.0), search (rules, l.1, r.1))))
 
 pub put_where-requires : goal.put_where-requires
 unfolding right_expr
