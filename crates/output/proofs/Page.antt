@@ -12,9 +12,8 @@ use Rattle.model.specs.Services.{page_outcome, PageLeaves}
 use Rattle.model.proofs.Answers.{Wide, answers_wide}
 use Rattle.model.proofs.Parties.{over_refused, over_accepted}
 use Rattle.model.proofs.Booleans.{Seen, yes!, no!, seen, no_yes}
-use Rattle.std.specs.Prelude.{Result, Ok, Err}
+use Rattle.std.specs.Prelude.{Ok, Err}
 use Rattle.model.specs.declared.Page.{Page}
-use Rattle.model.specs.declared.Cursor.{Cursor}
 use Rattle.model.specs.declared.refusal.Refusal.{Refusal}
 use Rattle.answers.proofs.Paging.{in_after, in_take}
 use Rattle.job.specs.declared.Span.{Span}
@@ -101,7 +100,7 @@ module _ (file before : List ℕ) (at : Position) (room : ℕ) (r : Piece) (out 
 
   pub file_listed : (j : Parts) → opened (Ok j) ≡ job_of file → PieceLeaves (job_piece file (opened (Ok j)) at room) before r out → PieceLeaves (list_piece file at room) before r out
   unfolding list_piece
-  file_listed j o h = rw (← reply_is file (opened (Ok j)) o, eq-eqb 0 0 refl) (rw o at h)
+  file_listed j o h = rw (← reply_is file (opened (Ok j)) o) (rw o at h)
 
 -- which piece it is
 
