@@ -6,7 +6,7 @@ mod refusal;
 mod search;
 
 ghost use Rattle.std.specs.Prelude.{◌≡◌, ◌++◌, ◌≤◌, ◌<◌, length, take, drop};
-ghost use Rattle.model.specs.Refusals.{reply, counting, making};
+ghost use Rattle.model.specs.Refusals.{reply};
 
 pub use kind::{Axis, Kind, axis_of, kind_of};
 pub use refusal::Refusal;
@@ -140,28 +140,6 @@ pub fn reply_at(number: u16, place: usize) -> Reply
     Reply {
         number: number,
         place: place as u16,
-    }
-}
-
-// A verdict as a reply with a number of nodes.
-pub fn image_reply(v: Reply, count: usize) -> ImageReply
-    ensures { result ≡ counting v count }
-{
-    ImageReply {
-        number: v.number,
-        place: v.place,
-        count: count,
-    }
-}
-
-// A verdict as a reply with a number of numbers.
-pub fn made_reply(v: Reply, count: usize) -> MadeReply
-    ensures { result ≡ making v count }
-{
-    MadeReply {
-        number: v.number,
-        place: v.place,
-        count: count,
     }
 }
 
