@@ -12,12 +12,7 @@ fn link_of(link: &[u16], y: usize) -> usize
     requires { 2 * y < length link.now }
     ensures { result ≡ lower (links link.now) y }
 {
-    let p = model::wide(link[2 * y]);
-    let linked = p < y;
-    if linked {
-        return p;
-    }
-    y
+    usize::from(link[2 * y]).min(y)
 }
 
 // One hop away from node 0: from the last row down, each becomes its link's.

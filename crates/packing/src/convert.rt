@@ -1,17 +1,10 @@
 // What an accepted conversion writes over the front of a buffer, row after row.
 ghost use Rattle.std.specs.Prelude.{◌≡◌, false, ◌++◌, ◌+◌, ◌*◌, ◌≤◌, ◌<◌, length, take, drop};
-ghost use Rattle.model.specs.Sets.{bit, tab, upto};
+ghost use Rattle.model.specs.Sets.{tab, upto};
 ghost use Rattle.sets.specs.NodeSets.{always, shifted};
 ghost use Rattle.bits.specs.Words.{test_bit, word, words};
 ghost use Rattle.bits.specs.BitTables.{packed, unpacked};
 ghost use Rattle.packing.specs.Parts.{row_bit, row_part};
-
-// A test as the lowest bit of a word.
-fn low_bit(b: bool) -> u64
-    ensures { result ≡ bit b }
-{
-    u64::from(b)
-}
 
 // The word of `count` bytes from a place on.
 fn pack_word(bytes: &[u8], at: usize, count: usize) -> u64
@@ -20,7 +13,7 @@ fn pack_word(bytes: &[u8], at: usize, count: usize) -> u64
 {
     let mut w = 0;
     for k in 0..count {
-        w |= low_bit(bytes[at + k] != 0) << k;
+        w |= u64::from(bytes[at + k] != 0) << k;
     }
     w
 }
@@ -81,7 +74,8 @@ fn unpack_word(w: u64, count: usize, bytes: &mut [u8], at: usize)
     ensures { bytes.new
         ≡ take at bytes.old ++ tab count (test_bit w) ++ drop (at + count) bytes.old }
 {
-    if w == 0 {
+    let empty = w == 0;
+    if empty {
         bytes[at..at + count].fill(0);
         return;
     }

@@ -23,7 +23,7 @@ fn gather(link: &[u16], n: usize, closed: bool, from: [u8; 256]) -> [u8; 256]
 {
     let mut r = [0u8; 256];
     for y in 0..n {
-        let p = model::wide(link[2 * y]);
+        let p = usize::from(link[2 * y]);
         if p < y {
             r[y] = sets::byte((from[p] != 0) | (closed & (r[p] != 0)));
         }
@@ -40,7 +40,7 @@ fn scatter(link: &[u16], n: usize, closed: bool, from: [u8; 256]) -> [u8; 256]
 {
     let mut r = [0u8; 256];
     for y in (0..n).rev() {
-        let p = model::wide(link[2 * y]);
+        let p = usize::from(link[2 * y]);
         let sends = (p < y) & ((from[y] != 0) | (closed & (r[y] != 0)));
         if sends {
             r[p] = 1;

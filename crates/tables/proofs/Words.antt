@@ -46,13 +46,15 @@ module _ (n base : ℕ) where
   unfolding upto
   full_word m h e = sym (word_cong 64 (full_from n base) (λ i. ltb i m) (λ i l. and-true (ltb (base + i) n) ∙ e i l) ∙ word_below 64 m h)
 
-  pub full_none : n ≤ base → 0 ≡ word 64 (full_from n base)
-  full_none h = full_word 0 (omega arith) (λ i l. le-ltb (base + i) n (omega arith) ∙ sym (le-ltb i 0 (omega arith)))
+  -- with how many of them are below n, at most 64
+  module _ (m : ℕ) (d : m ≡ n - base) where
+    alike : (i : ℕ) → i < 64 → ltb (base + i) n ≡ ltb i m
+    alike i l = ⊎_elim (λ k. lt-ltb (base + i) n (omega arith) ∙ sym (lt-ltb i m k)) (λ k. le-ltb (base + i) n (omega arith) ∙ sym (le-ltb i m k)) (lt_or_le i m)
 
-  pub full_all : base < n → 64 ≤ n - base → 18446744073709551615 ≡ word 64 (full_from n base)
-  full_all h g = full_word 64 (omega arith) (λ i l. lt-ltb (base + i) n (omega arith) ∙ sym (lt-ltb i 64 l))
+    pub full_all : 64 ≤ m → 18446744073709551615 ≡ word 64 (full_from n base)
+    full_all h = full_word 64 (omega arith) (λ i l. alike i l ∙ lt-ltb i m (omega arith) ∙ sym (lt-ltb i 64 l))
 
-  pub full_some : base < n → n - base < 64 → (1 * 2 ^ (n - base)) % 2 ^ 64 - 1 ≡ word 64 (full_from n base)
-  full_some h g =
-      ap (λ (v : ℕ). v - 1) (shl_exact {a = 1} 1 (n - base) 64 (omega arith) (omega arith) ∙ (let e : 1 * 2 ^ (n - base) ≡ 2 ^ (n - base) = omega arith in e))
-      ∙ full_word (n - base) (omega arith) (λ i l. ⊎_elim (λ m. lt-ltb (base + i) n (omega arith) ∙ sym (lt-ltb i (n - base) m)) (λ m. le-ltb (base + i) n (omega arith) ∙ sym (le-ltb i (n - base) m)) (lt_or_le i (n - base)))
+    pub full_some : m < 64 → (1 * 2 ^ m) % 2 ^ 64 - 1 ≡ word 64 (full_from n base)
+    full_some h =
+        ap (λ (v : ℕ). v - 1) (shl_exact {a = 1} 1 m 64 (omega arith) (omega arith) ∙ (let e : 1 * 2 ^ m ≡ 2 ^ m = omega arith in e))
+        ∙ full_word m (omega arith) alike

@@ -38,10 +38,7 @@ pub fn bit_if(b: bool, k: usize) -> u64
 pub fn full_from(n: usize, base: usize) -> u64
     ensures { result ≡ word 64 (full_from n base) }
 {
-    if n <= base {
-        return 0;
-    }
-    let m = n - base;
+    let m = n.saturating_sub(base);
     if 64 <= m {
         return u64::MAX;
     }

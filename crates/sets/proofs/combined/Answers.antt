@@ -1,4 +1,3 @@
-use native.Mathlib.Omega.{arith}
 use mathlib.Core.Path.{ap, ◌∙◌}
 use borrow.Author.Rules.{rules}
 use Rattle.model.specs.Sets.{bit, memb}
@@ -11,7 +10,7 @@ loop-i-init c = search (fill_start, rules)
 
 pub loop-i-preserved : goal.loop-i-preserved
 unfolding memb combination
-loop-i-preserved c = (omega arith, fill_store 256 _ _ _ _ c.loop-i.invariant.1 (c.byte.ensures ∙ ap bit c.merge.ensures))
+loop-i-preserved c = fill_store 256 _ _ _ _ c.loop-i.invariant (c.byte.ensures ∙ ap bit c.merge.ensures)
 
 pub returns : goal.returns
 returns c = search (fill_whole, rules)

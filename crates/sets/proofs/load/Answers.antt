@@ -1,7 +1,6 @@
-use native.Mathlib.Omega.{arith}
 use borrow.Author.Rules.{rules}
 use Rattle.model.specs.Sets.{memb}
-use Rattle.model.proofs.Bytes.{fill_start, fill_store, fill_done}
+use Rattle.model.proofs.Bytes.{fill_start, fill_store}
 use Rattle.sets.proofs.load.Goals as goal
 
 pub loop-i-init : goal.loop-i-init
@@ -9,7 +8,4 @@ loop-i-init c = search (fill_start, rules)
 
 pub loop-i-preserved : goal.loop-i-preserved
 unfolding memb
-loop-i-preserved c = (omega arith, fill_store 256 _ _ _ _ c.loop-i.invariant.1 c.byte.ensures)
-
-pub returns : goal.returns
-returns c = search (fill_done, rules)
+loop-i-preserved c = fill_store 256 _ _ _ _ c.loop-i.invariant c.byte.ensures

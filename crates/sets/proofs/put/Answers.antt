@@ -1,21 +1,12 @@
 use native.Mathlib.Omega.{arith}
 use borrow.Author.Rules.{rules}
 use Rattle.model.specs.Sets.{memb}
-use Rattle.model.proofs.Bytes.{over_start, over_more, over_done, length_over}
+use Rattle.model.proofs.Bytes.{over_start, over_more}
 use Rattle.sets.proofs.put.Goals as goal
 
 pub loop-i-init : goal.loop-i-init
 loop-i-init c = search (over_start, rules)
 
-pub bounds-out-i : goal.bounds-out-i
-bounds-out-i c = omega (arith, length_over _ _ _ _ c.loop-i.invariant.1 (omega arith))
-
 pub loop-i-preserved : goal.loop-i-preserved
 unfolding memb
-loop-i-preserved c = (omega arith, over_more _ _ _ _ _ c.loop-i.invariant.1 c.byte-b.ensures (omega arith))
-
-pub shape_of-out : goal.shape_of-out
-shape_of-out c = length_over _ _ _ _ c.loop-i.invariant.1 (omega arith)
-
-pub returns : goal.returns
-returns c = search (over_done, rules)
+loop-i-preserved c = over_more _ _ _ _ _ c.loop-i.invariant c.byte-b.ensures (omega arith)

@@ -1,9 +1,6 @@
 use borrow.Author.Rules.{rules}
-use Rattle.steps.proofs.Images.{some_nodes, step_whole, step_on, step_back}
+use Rattle.steps.proofs.Images.{step_whole, step_on, step_back}
 use Rattle.steps.proofs.step_image.Goals as goal
-
-pub passes_all-all-requires : goal.passes_all-all-requires
-passes_all-all-requires c = search (some_nodes, rules)
 
 pub returns-then-all : goal.returns-then-all
 returns-then-all c = search (step_whole, rules)

@@ -5,16 +5,16 @@ use Rattle.tables.proofs.Tables.{rows_start, rows_end, diagonal_more}
 use Rattle.tables.proofs.diagonal.Goals as goal
 
 pub loop-x-init : goal.loop-x-init
-loop-x-init c = (omega arith, rows_start _ _)
+loop-x-init c = rows_start _ _
 
 pub put-requires : goal.put-requires
 put-requires c = (omega arith, search (row_length, rules))
 
 pub loop-x-preserved : goal.loop-x-preserved
-loop-x-preserved c = (omega arith, search (diagonal_more, rules))
+loop-x-preserved c = search (diagonal_more, rules)
 
 pub shape_of-acc : goal.shape_of-acc
-shape_of-acc c = c.loop-x.invariant.1.size
+shape_of-acc c = c.loop-x.invariant.size
 
 pub returns : goal.returns
-returns c = rows_end _ _ _ _ _ c.loop-x.invariant.1 (omega arith) (omega arith)
+returns c = rows_end _ _ _ _ _ c.loop-x.invariant (omega arith) (omega arith)

@@ -3,13 +3,13 @@ use Rattle.tables.proofs.Tables.{front_start, filter_more, filter_end}
 use Rattle.tables.proofs.filter.Goals as goal
 
 pub loop-i-init : goal.loop-i-init
-loop-i-init c = (omega arith, front_start _ _)
+loop-i-init c = front_start _ _
 
 pub loop-i-preserved : goal.loop-i-preserved
-loop-i-preserved c = (omega arith, filter_more _ _ _ _ c.loop-i.invariant.1 _ c.merge-v.ensures (omega arith))
+loop-i-preserved c = filter_more _ _ _ _ c.loop-i.invariant _ c.merge-v.ensures (omega arith)
 
 pub shape_of-acc : goal.shape_of-acc
-shape_of-acc c = c.loop-i.invariant.1.size
+shape_of-acc c = c.loop-i.invariant.size
 
 pub returns : goal.returns
-returns c = filter_end _ _ _ _ c.loop-i.invariant.1 _ (omega arith) (omega arith)
+returns c = filter_end _ _ _ _ c.loop-i.invariant _ (omega arith) (omega arith)

@@ -6,7 +6,7 @@ use Rattle.tables.proofs.Closing.{diagonal_joined}
 use Rattle.tables.proofs.closure.join_diagonal.Goals as goal
 
 pub loop-x-init : goal.loop-x-init
-loop-x-init c = (omega arith, rows_start _ _)
+loop-x-init c = rows_start _ _
 
 pub join-next-requires : goal.join-next-requires
 join-next-requires c = (search (row_length, rules), omega arith)
@@ -15,10 +15,10 @@ pub put-requires : goal.put-requires
 put-requires c = (omega arith, search (row_length, rules))
 
 pub loop-x-preserved : goal.loop-x-preserved
-loop-x-preserved c = (omega arith, diagonal_joined _ _ _ _ _ _ c.loop-x.invariant.1 c.put.ensures c.join-next.ensures c.single-own.ensures)
+loop-x-preserved c = diagonal_joined _ _ _ _ _ _ c.loop-x.invariant c.put.ensures c.join-next.ensures c.single-own.ensures
 
 pub shape_of-acc : goal.shape_of-acc
-shape_of-acc c = c.loop-x.invariant.1.size
+shape_of-acc c = c.loop-x.invariant.size
 
 pub returns : goal.returns
-returns c = rows_end _ _ _ _ _ c.loop-x.invariant.1 (omega arith) (omega arith)
+returns c = rows_end _ _ _ _ _ c.loop-x.invariant (omega arith) (omega arith)

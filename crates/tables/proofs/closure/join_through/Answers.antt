@@ -4,13 +4,13 @@ use Rattle.tables.proofs.Closing.{rows_joined}
 use Rattle.tables.proofs.closure.join_through.Goals as goal
 
 pub loop-x-init : goal.loop-x-init
-loop-x-init c = (omega arith, rows_start _ _)
+loop-x-init c = rows_start _ _
 
 pub loop-x-preserved : goal.loop-x-preserved
-loop-x-preserved c = (omega arith, rows_joined _ _ _ _ c.loop-x.invariant.1 _ c.join_row.ensures (omega arith))
+loop-x-preserved c = rows_joined _ _ _ _ c.loop-x.invariant _ c.join_row.ensures (omega arith)
 
 pub shape_of-acc : goal.shape_of-acc
-shape_of-acc c = c.loop-x.invariant.1.size
+shape_of-acc c = c.loop-x.invariant.size
 
 pub returns : goal.returns
-returns c = rows_end _ _ _ _ _ c.loop-x.invariant.1 (omega arith) (omega arith)
+returns c = rows_end _ _ _ _ _ c.loop-x.invariant (omega arith) (omega arith)

@@ -5,13 +5,13 @@ use Rattle.tables.proofs.Rows.{row_is}
 use Rattle.tables.proofs.product.row_of.Goals as goal
 
 pub loop-j-init : goal.loop-j-init
-loop-j-init c = (omega arith, reached_start _ _ _ _)
+loop-j-init c = reached_start _ _ _ _
 
 pub join_word-next-requires : goal.join_word-next-requires
-join_word-next-requires c = (row_is _ _ c.loop-j.invariant.1, (omega arith, (omega arith, omega arith)))
+join_word-next-requires c = (row_is _ _ c.loop-j.invariant, (omega arith, (omega arith, omega arith)))
 
 pub loop-j-preserved : goal.loop-j-preserved
-loop-j-preserved c = (omega arith, reached_next _ _ _ _ _ _ _ c.loop-j.invariant.1 c.join_word-next.ensures)
+loop-j-preserved c = reached_next _ _ _ _ _ _ _ c.loop-j.invariant c.join_word-next.ensures
 
 pub returns : goal.returns
 returns c = search (reached_end, rules)
