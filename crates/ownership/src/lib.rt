@@ -20,6 +20,9 @@ fn is_bad_tree_length(l: usize) -> bool
     (l == 0) | ((l % 3 != 0) | (768 < l))
 }
 
+// The numbers of a node. `tree` has twins of the first two at two numbers a node: over both strides they would be no plainer, with bounds
+// that are products of two variables.
+
 // The parent of node x.
 pub fn parent(tree: &[u16], x: usize) -> usize
     requires { x < length tree.now / 3 }

@@ -2,14 +2,14 @@
 // table's length.
 #![tactic(auto)]
 
-ghost use Rattle.std.specs.Prelude.{◌≡◌, ◌*◌, ◌≤◌, ◌<◌, [], ◌∷◌, get_or};
+ghost use Rattle.std.specs.Prelude.{◌≡◌, ◌*◌, ◌≤◌, ◌<◌, [], ◌∷◌, get_or, eqb};
 ghost use Rattle.model.specs.QueryTable.{entries_of, kind, entry, last_of};
 ghost use Rattle.model.specs.Refusals.{refuse_at, refuse_here, told, verdict};
 ghost use Rattle.model.specs.Kinds.{is_path, left_path, left_expr, right_path, right_expr, names_variable, has_left, has_right};
 ghost use Rattle.model.specs.Checks.{bad_query_length, bad_variable_count, bad_kind, bad_field, bad_operand, bad_sort, bad_entry, misused, bad_last, use_checks, entry_checks, query_checks};
 ghost use Rattle.query.specs.Uses.{one_more, with_use, Counted};
 
-use model::{Entry, Refusal, lowest};
+use model::{Entry, Kind, Refusal, lowest};
 
 // Reading the table.
 
@@ -41,48 +41,93 @@ pub fn entry_at(query: &[u16], e: usize) -> Entry
     }
 }
 
-// What a kind is, and what its operands are, by the table of kinds in `model`.
+// What the kind of a number is, and what its operands are, by the table of kinds in `model`; none where there is no such kind.
 
 // Its entries are paths, else node expressions.
+#[tactic(auto, unfolding(model::specs::Kinds::is_path))]
 fn is_path(k: usize) -> bool
     ensures { result ≡ is_path k }
 {
-    (k < 8) | (k == 13)
+    matches!(
+        Kind::from_number(k),
+        Some(
+            Kind::Step
+                | Kind::Compose
+                | Kind::Union
+                | Kind::Intersect
+                | Kind::Except
+                | Kind::Filter
+                | Kind::Variable
+                | Kind::Root
+                | Kind::Star
+        )
+    )
 }
 
 // The left operand is a path.
+#[tactic(auto, unfolding(model::specs::Kinds::left_path))]
 fn left_path(k: usize) -> bool
     ensures { result ≡ left_path k }
 {
-    ((0 < k) & (k < 6)) | ((k == 7) | ((k == 8) | ((k == 13) | (k == 14))))
+    matches!(
+        Kind::from_number(k),
+        Some(
+            Kind::Compose
+                | Kind::Union
+                | Kind::Intersect
+                | Kind::Except
+                | Kind::Filter
+                | Kind::Root
+                | Kind::Exists
+                | Kind::Star
+                | Kind::Same
+        )
+    )
 }
 
 // The left operand is a node expression.
+#[tactic(auto, unfolding(model::specs::Kinds::left_expr))]
 fn left_expr(k: usize) -> bool
     ensures { result ≡ left_expr k }
 {
-    (8 < k) & (k < 12)
+    matches!(Kind::from_number(k), Some(Kind::Not | Kind::And | Kind::Or))
 }
 
 // The right operand is a path.
+#[tactic(auto, unfolding(model::specs::Kinds::right_path))]
 fn right_path(k: usize) -> bool
     ensures { result ≡ right_path k }
 {
-    ((0 < k) & (k < 5)) | (k == 14)
+    matches!(
+        Kind::from_number(k),
+        Some(Kind::Compose | Kind::Union | Kind::Intersect | Kind::Except | Kind::Same)
+    )
 }
 
 // The right operand is a node expression.
+#[tactic(auto, unfolding(model::specs::Kinds::right_expr))]
 fn right_expr(k: usize) -> bool
     ensures { result ≡ right_expr k }
 {
-    (k == 5) | ((k == 10) | (k == 11))
+    matches!(
+        Kind::from_number(k),
+        Some(Kind::Filter | Kind::And | Kind::Or)
+    )
+}
+
+// It is a step.
+fn is_step(k: usize) -> bool
+    ensures { result ≡ eqb k 0 }
+{
+    matches!(Kind::from_number(k), Some(Kind::Step))
 }
 
 // The left field is the number of a variable.
+#[tactic(auto, unfolding(model::specs::Kinds::names_variable))]
 pub fn names_variable(k: usize) -> bool
     ensures { result ≡ names_variable k }
 {
-    (k == 6) | (k == 12)
+    matches!(Kind::from_number(k), Some(Kind::Variable | Kind::Is))
 }
 
 // The kind has a left operand.
@@ -119,7 +164,7 @@ fn is_bad_variable_count(least: usize, columns: usize) -> bool
 fn is_bad_kind(f: Entry) -> bool
     ensures { result ≡ bad_kind f }
 {
-    14 < f.kind
+    Kind::from_number(f.kind).is_none()
 }
 
 // 11: an axis or a variable is out of range, or an unnamed field is not 0.
@@ -127,9 +172,10 @@ fn is_bad_field(columns: usize, f: Entry) -> bool
     ensures { result ≡ bad_field columns f }
 {
     let k = f.kind;
-    ((k == 0) & (12 < f.left))
+    let step = is_step(k);
+    (step & (12 < f.left))
         | ((names_variable(k) & !(f.left < columns))
-            | ((!has_right(k) & (f.right != 0)) | ((k != 0) & (f.tag != 0))))
+            | ((!has_right(k) & (f.right != 0)) | (!step & (f.tag != 0))))
 }
 
 // 12: an operand of entry e does not come before it.
@@ -166,16 +212,14 @@ fn one_more(kept: u8) -> u8
     if kept == 0 { 1 } else { 2 }
 }
 
-// The counts with one use more of entry i, where it is used. Copying the 64 bytes is a constant cost.
+// Counts one use more of entry i, where it is used.
 #[tactic(auto, unfolding(crate::specs::Uses::with_use))]
-fn with_use(counts: [u8; 64], used: bool, i: usize) -> [u8; 64]
-    ensures { result ≡ with_use counts used i }
+fn count_use(counts: &mut [u8; 64], used: bool, i: usize)
+    ensures { counts.new ≡ with_use counts.old used i }
 {
-    let mut after = counts;
     if used && i < 64 {
-        after[i] = one_more(counts[i]);
+        counts[i] = one_more(counts[i]);
     }
-    after
 }
 
 // For each of the first 64 entries, how often it is an operand: 0 never, 1 once, 2 more often. Linear in the entries.
@@ -185,8 +229,8 @@ fn count_uses(query: &[u16]) -> [u8; 64]
     let mut counts = [0u8; 64];
     for e in 0..query.len() / 4 {
         let f = entry_at(query, e);
-        let with_left = with_use(counts, has_left(f.kind), f.left);
-        counts = with_use(with_left, has_right(f.kind), f.right);
+        count_use(&mut counts, has_left(f.kind), f.left);
+        count_use(&mut counts, has_right(f.kind), f.right);
     }
     counts
 }

@@ -2,7 +2,7 @@
 // and a party. The check and the making of it take time linear in the table's length.
 #![tactic(auto)]
 
-ghost use Rattle.std.specs.Prelude.{◌≡◌, cond, ◌||◌, ◌≤◌, length, eqb};
+ghost use Rattle.std.specs.Prelude.{◌≡◌, ◌||◌, ◌≤◌, length, eqb};
 ghost use Rattle.model.specs.Refusals.{told_making};
 ghost use Rattle.model.specs.Services.{Leaves};
 ghost use Rattle.view.specs.View.{AcceptedTable, Filled, Looked, seen_tree};
@@ -14,13 +14,6 @@ fn is_open(owner: u16, party: u16) -> bool
     ensures { result ≡ (eqb owner 0 || eqb owner party) }
 {
     (owner == 0) | (owner == party)
-}
-
-// a if b, else c.
-fn choose(b: bool, a: u16, c: u16) -> u16
-    ensures { result ≡ cond b a c }
-{
-    if b { a } else { c }
 }
 
 // The seen nodes, over the front of a table of 512 numbers, and how many they are. One turn a node, without a branch: each node is
@@ -41,7 +34,7 @@ fn fill(tree: &[u16], party: u16, table: &mut [u16]) -> usize
         let seen = is_open(ownership::owner(tree, x), party) & (up != 65535);
         table[2 * nodes] = up;
         table[2 * nodes + 1] = ownership::tag(tree, x);
-        numbers[x] = choose(seen, nodes as u16, 65535);
+        numbers[x] = if seen { nodes as u16 } else { 65535 };
         nodes += usize::from(seen);
     }
     nodes
