@@ -1,8 +1,7 @@
 -- The depth of an entry, from those of its operands.
 use Prim.Native.Nat.{ℕ, ◌+◌, ◌≤◌, ◌<◌, min, max}
 use native.Mathlib.Omega.{arith}
-use mathlib.Core.Path.{◌≡◌, refl, sym, ap, ◌∙◌}
-use mathlib.Core.Logic.{◌⊎◌, inl, inr}
+use mathlib.Core.Path.{◌≡◌, sym, ap, ◌∙◌}
 use mathlib.Core.Bool.{Bool, true, false, cond, ◌||◌}
 use mathlib.Core.List.{List}
 use lib.Dec.{eqb}
@@ -13,32 +12,12 @@ use Rattle.model.specs.QueryTable.{entries_of, kind, left, right, entry}
 use Rattle.model.specs.Kinds.{has_left, has_right}
 use Rattle.model.specs.Accepted.{Formed}
 use Rattle.model.proofs.Booleans.{no_yes}
-use Rattle.model.specs.declared.kind.Kind.{Kind}
-use Rattle.model.specs.declared.kind.Kind.TheVariants.{Intersect, Except, Star, Same}
-use Rattle.model.specs.Numbers.{kind_number}
 use Rattle.aside.specs.declared.Operands.TheVariants as Operands
 use Rattle.aside.specs.Aside.{term_at, NumbersTo, PassedTo, OperandsOf}
 use Rattle.aside.proofs.Numbers.{kept_for}
 use Rattle.aside.proofs.Terms.{Form, form}
 use Rattle.aside.proofs.Terms.Form.{none!, one!, two! }
 use Rattle.nesting.specs.Nesting.{weight, depth_in, depth_at, deep}
-
--- how much an entry adds, by its kind
-
-pub weighs_two : {k : Kind} → k ≡ Same → 2 ≡ weight (kind_number k)
-weighs_two h = rw h
-
-pub weighs_one : {k : Kind} → (k ≡ Intersect) ⊎ ((k ≡ Except) ⊎ (k ≡ Star)) → 1 ≡ weight (kind_number k)
-weighs_one (inl h) = rw h
-weighs_one (inr (inl h)) = rw h
-weighs_one (inr (inr h)) = rw h
-
-pub weighs_none : (k : Kind) → (k ≡ Same → ⊥) → (k ≡ Intersect → ⊥) → (k ≡ Except → ⊥) → (k ≡ Star → ⊥) → 0 ≡ weight (kind_number k)
-weighs_none Same a b c d = absurd (a refl)
-weighs_none Intersect a b c d = absurd (b refl)
-weighs_none Except a b c d = absurd (c refl)
-weighs_none Star a b c d = absurd (d refl)
-weighs_none k a b c d = refl
 
 -- it is at most two, and none is deeper than two
 

@@ -11,7 +11,7 @@ use lib.ListN.{get_or}
 use borrow.Author.Tests.{eqb-true}
 use Rattle.model.specs.declared.Entry.{Entry}
 use Rattle.model.specs.Encoding.{columns}
-use Rattle.model.specs.QueryTable.{entries_of, kind, left, right, entry, last_of}
+use Rattle.model.specs.QueryTable.{entries_of, kind, left, right, entry}
 use Rattle.model.specs.Kinds.{Field, wants_path, wants_expr, wants_variable, kind_of, left_path, left_expr, right_path, right_expr, names_variable, has_left, has_right}
 use Rattle.model.specs.Accepted.{Formed}
 use Rattle.model.proofs.Booleans.{Seen, seen, no_yes, not_yes}
@@ -190,11 +190,3 @@ module _ {q : List ℕ} {e : ℕ} {reach kept : List ℕ} (all : NumbersTo (reac
 
     pub bound_both : {i j : ℕ} → OperandsOf q e (Operands.Two i j) → (b : Bool) → b ≡ sameb the_type k Except → (r : ℕ) → r ≡ cond b (get_or reach j 0) (get_or kept j 0) → (o : ℕ) → o ≡ max (get_or kept i 0) r → o ≡ bound_at q e
     bound_both a b t r w o g = g ∙ rw (w, t, is_except k, known, kept_for (bound_at q) pass.1.1.0 a.1.0 a.1.1.1.0, all_for a.1.1.0 a.1.1.1.1, kept_for (bound_at q) pass.1.1.0 a.1.1.0 a.1.1.1.1) (sym (bound_two q pass.0 e pass.1.1.1 a.0))
-
--- the end of the pass: the last entry
-module _ (q : List ℕ) (e : ℕ) (kept : List ℕ) (w : NumbersTo (bound_at q) e kept) (l : entries_of q ≤ e) (some : 0 < entries_of q) where
-  pub bound_last : get_or kept (last_of q) 0 ≡ bound_at q (last_of q)
-  bound_last = w.at (last_of q) (omega arith)
-
-  pub bound_fits : Formed q → Named q → get_or kept (last_of q) 0 < 18446744073709551616
-  bound_fits ok named = let m : bound_at q (last_of q) ≤ 3 = bound_below q ok 3 named (last_of q) (omega arith) in omega (arith, bound_last)
