@@ -20,6 +20,7 @@ LOOPS = {"while", "for", "loop"}
 BLOCKS = LOOPS | {"if", "else"}
 WORDS = {"as", "true", "false", "mut"}  # keywords that a value may have
 LEAVES = {"return", "break", "continue"}
+CONVERSIONS = {n + "::from" for n in ("u8", "u16", "u64", "usize")}  # a number of another type: read as the number, and no call
 METHODS = {"len", "fill"}  # the methods that are read: of a slice its length, and a part of it written over
 KEYWORDS = BLOCKS | WORDS | LEAVES | {"let", "in", "match", "use", "fn", "const"}
 
@@ -55,6 +56,24 @@ def names(tokens, span):
     return found
 
 
+def branches(tokens):
+    """A body in which each `match` that is a statement reads as the branches that its arms are. What the patterns bind is a local
+    that is given no value."""
+    for i, token in enumerate(tokens):
+        if token == "match" and (i == 0 or tokens[i - 1] in "{;}"):
+            head = next(j for j in range(i, len(tokens)) if tokens[j] == "{")
+            end, at, new = closing(tokens, head), head + 1, []
+            while at < end:
+                arrow = next(j for j in range(at, end) if tokens[j] == "=>")
+                block = tokens[arrow + 1] == "{"
+                stop = closing(tokens, arrow + 1) if block else split(tokens, (arrow + 1, end), ",")[0][1]
+                opens = ["else", "if", "true"] if new else ["if"] + tokens[i + 1 : head]
+                new += opens + ["{"] + tokens[arrow + 1 + block : stop] + ["}"]
+                at = stop + block + (tokens[stop + block : stop + block + 1] == [","]) + (not block and stop < end and tokens[stop] != ",")
+            return tokens[:i] + branches(new) + branches(tokens[end + 1 :])
+    return tokens
+
+
 class Call:
     """A call of a function: its name as written, the span of the call, and those of what it is lent."""
 
@@ -71,7 +90,7 @@ def calls(tokens):
         is_macro = before == "!" and NAME.fullmatch(tokens[i - 2])
         if token == "(" and (before in (")", "]") or is_macro) or token == ":" == before:
             raise Fault("'%s'" % " ".join(tokens[max(i - 3, 0) : i + 2]))
-        if behind == ["("] and NAME.fullmatch(token.split("::")[-1]) and token not in KEYWORDS:
+        if behind == ["("] and NAME.fullmatch(token.split("::")[-1]) and token not in KEYWORDS | CONVERSIONS:
             if before != ".":
                 found.append(Call(tokens, i))
             elif token not in METHODS:
@@ -149,7 +168,7 @@ class Function:
         self.crate, self.module, self.item, self.path = crate, module, item, item.path
         self.name = "::".join((crate,) + module + (item.name,))
         self.parameters, self.result = signature(item.statement)
-        self.tokens = [t for t in TOKEN.findall("\n".join(item.code)) if not t.startswith("//")]
+        self.tokens = branches([t for t in TOKEN.findall("\n".join(item.code)) if not t.startswith("//")])
 
     @functools.cached_property
     def statements(self):

@@ -1,9 +1,10 @@
 """Where functions write the bytes that they are lent.
 
-A *writer* is a function that is lent bytes to write. A *place* is an index that it writes at, an end of a part that it lends or fills,
-what it hands another writer that makes a place of it, and what one of these is compared with; and for each local that is read
-there, what it starts from and what it grows by. A *bound* is an end of a loop, and what is handed to another writer that makes a
-bound of it; and the value of each local that is read there, or in what a place grows by."""
+A *writer* is a function that is lent bytes to write. A *place* is an index that it writes at, an end of a part that it lends, the
+beginning of one that it fills, what it hands another writer that makes a place of it, and what one of these is compared with; and for
+each local that is read there, what it starts from and what it grows by. A *bound* is an end of a loop or of a part that is filled, and
+what is handed to another writer that makes a bound of it; and the value of each local that is read there, or in what a place grows
+by."""
 import collections
 import functools
 import re
@@ -94,7 +95,8 @@ class Writer:
         return {n for n in some if local in self.made_from.get(n, ())} if local in some else set()
 
     def written_at(self):
-        """The indices that are written at, and the ends of the parts that are lent or filled, as spans with their statements."""
+        """The indices that are written at, the ends of the parts that are lent, and where those begin that are filled, as spans with
+        their statements."""
         for s in self.function.statements:
             if s.index:
                 yield s.index, s
@@ -103,12 +105,17 @@ class Writer:
                 if (i, end) not in [span for call, t, _ in self.calls if t is s for span in call.lent]:
                     raise Fault("%s has '%s', which cannot be followed" % (self.function.name, self.function.text(s.span)))
                 yield from ((span, s) for span in split(self.tokens, (i + 4, end - 1), ENDS))
-            for i in (i for i in range(*s.span) if self.tokens[i : i + 2] == [".", "fill"]):
-                start = next((a for a in range(s.span[0], i) if self.tokens[a] == "[" and closing(self.tokens, a) == i - 1), None)
-                if start is None:
-                    raise Fault("%s has '%s', which cannot be followed" % (self.function.name, self.function.text(s.span)))
-                yield from ((span, s) for span in split(self.tokens, (start + 1, i - 1), ENDS))
+            yield from ((part[0], s) for part in self.filled(s))
         yield from self.handed(lambda writer: writer.finds)
+
+    def filled(self, s):
+        """The parts that a statement fills, each as the spans of its ends."""
+        for i in (i for i in range(*s.span) if self.tokens[i : i + 2] == [".", "fill"]):
+            start = next((a for a in range(s.span[0], i) if self.tokens[a] == "[" and closing(self.tokens, a) == i - 1), None)
+            ends = split(self.tokens, (start + 1, i - 1), ENDS) if start is not None else []
+            if len(ends) != 2:
+                raise Fault("%s has '%s', which cannot be followed" % (self.function.name, self.function.text(s.span)))
+            yield ends
 
     def handed(self, locals_of):
         """What is handed to writers for some of their locals."""
@@ -126,8 +133,9 @@ class Writer:
                     yield from ((side, s) for side in sides)
 
     def bounding(self):
-        """The ends of loops, and what writers make bounds of."""
+        """The ends of loops and of the parts that are filled, and what writers make bounds of."""
         for s in self.function.statements:
+            yield from ((part[1], s) for part in self.filled(s))
             yield from ((span, s) for span in split(self.tokens, s.value, ENDS) if s.first in LOOPS)
         yield from self.handed(lambda writer: writer.bounds | writer.steps)
 

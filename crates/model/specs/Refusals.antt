@@ -141,7 +141,16 @@ IsLowest n f r = MatchOption r (lowest n f ≡ n) (λ x. (x < n) × (x ≡ lowes
 abbrev pub CallableBelow : ℕ → (ℕ → Type 0) → Type 0
 CallableBelow n pre = (x : ℕ) → x < n → pre x
 
+-- a test tells f of every number below n
+abbrev pub Tells : ℕ → (ℕ → Bool → Type 0) → (ℕ → Bool) → Type 0
+Tells n post f = (x : ℕ) (b : Bool) → x < n → post x b → b ≡ f x
+
 -- what a search by a test finds: for every f that the test tells, the least number below n that passes f, or nothing where none does
 abbrev pub FindsLowest : ℕ → (ℕ → Bool → Type 0) → Option ℕ → Type 0
-FindsLowest n post r =
-    (f : ℕ → Bool) → ((x : ℕ) (b : Bool) → x < n → post x b → b ≡ f x) → IsLowest n f r
+-- a test tells f of every number below n
+abbrev pub Tells : ℕ → (ℕ → Bool → Type 0) → (ℕ → Bool) → Type 0
+Tells n post f = (x : ℕ) (b : Bool) → x < n → post x b → b ≡ f x
+
+-- what a search by a test finds: for every f that the test tells, the least number below n that passes f, or nothing where none does
+abbrev pub FindsLowest : ℕ → (ℕ → Bool → Type 0) → Option ℕ → Type 0
+FindsLowest n post r = (f : ℕ → Bool) → Tells n post f → IsLowest n f r

@@ -106,6 +106,11 @@ module _ (n x : ℕ) (b o l : List ℕ) (q : l ≡ words (4 * x) (bit_cell n (by
       row k h =
           sym (ap (bit_cell n (byte_relation n b)) (let d : 64 * (4 * x) + k ≡ 256 * x + k = omega arith in d) ∙ cell_row n (byte_relation n b) x k (omega arith))
 
+  -- the same where the places of the row are carried along
+  pub words_carried : (at to m : ℕ) (l' p r : List ℕ) → at ≡ x * n → to ≡ 4 * x → l' ≡ put_mid to m l p → p ≡ r → m ≡ 4 → r ≡ words 4 (upto n (shifted at b)) → l' ≡ words (4 * (x + 1)) S ++ drop (4 * (x + 1)) o
+  words_carried at to m l' p r a t h e f g =
+      h ∙ ap (λ (k : ℕ). put_mid k m l p) t ∙ words_more m p r e f (g ∙ ap (λ (k : ℕ). words 4 (upto n (shifted k b))) a)
+
   pub words_end : x ≤ n → n ≤ x → l ≡ bit_table n (byte_relation n b) ++ drop (4 * n) o
   unfolding bit_table
   words_end h k = q ∙ ap (λ (k : ℕ). words (4 * k) S ++ drop (4 * k) o) (let d : x ≡ n = omega arith in d)
@@ -152,10 +157,17 @@ part_word w d l l' from at i k p q small h =
     read : (j : ℕ) → j < k → test_bit (get_or w (from + i) 0) j ≡ row_bit w from (64 * i + j)
     read j lt = sym (ap (has_bit w) (let g : 64 * from + (64 * i + j) ≡ 64 * (from + i) + j = omega arith in g) ∙ has_bit_at w (from + i) j (omega arith))
 
-pub part_next : (w d l l' : List ℕ) (from at i : ℕ) → l' ≡ take (at + 64 * i) l ++ tab 64 (test_bit (get_or w (from + i) 0)) ++ drop (at + 64 * i + 64) l → l ≡ part (row_bit w from) d at (64 * i)
+-- the same where the place in the row is carried along
+pub part_carried : (w d l l' : List ℕ) (from at i y k : ℕ) → y ≡ 64 * i → l' ≡ take (at + y) l ++ tab k (test_bit (get_or w (from + i) 0)) ++ drop (at + y + k) l → l ≡ part (row_bit w from) d at (64 * i)
+    → k ≤ 64 → at + 64 * i ≤ length d → l' ≡ part (row_bit w from) d at (64 * i + k)
+part_carried w d l l' from at i y k e p q small h =
+    part_word w d l l' from at i k
+    (p ∙ ap (λ (j : ℕ). take (at + j) l ++ tab k (test_bit (get_or w (from + i) 0)) ++ drop (at + j + k) l) e) q small h
+
+pub part_next : (w d l l' : List ℕ) (from at i y : ℕ) → y ≡ 64 * i → l' ≡ take (at + y) l ++ tab 64 (test_bit (get_or w (from + i) 0)) ++ drop (at + y + 64) l → l ≡ part (row_bit w from) d at (64 * i)
     → at + 64 * i ≤ length d → l' ≡ part (row_bit w from) d at (64 * (i + 1))
-part_next w d l l' from at i p q h =
-    part_word w d l l' from at i 64 p q (omega arith) h ∙ ap (part (row_bit w from) d at) (let e : 64 * i + 64 ≡ 64 * (i + 1) = omega arith in e)
+part_next w d l l' from at i y e p q h =
+    part_carried w d l l' from at i y 64 e p q (omega arith) h ∙ ap (part (row_bit w from) d at) (let e : 64 * i + 64 ≡ 64 * (i + 1) = omega arith in e)
 
 pub part_whole : (S : ℕ → Bool) (d l : List ℕ) (at i m : ℕ) → l ≡ part S d at (64 * i) → i ≤ m → m ≤ i → l ≡ part S d at (64 * m)
 part_whole S d l at i m p a b = p ∙ ap (λ (k : ℕ). part S d at (64 * k)) (let e : i ≡ m = omega arith in e)
@@ -185,6 +197,12 @@ module _ (n x : ℕ) (w o l : List ℕ) (q : l ≡ tab (x * n) (cell n (bit_rela
     where
       row : (k : ℕ) → k < n → row_bit w (4 * x) k ≡ cell n (bit_relation w) (x * n + k)
       row k h = ap (has_bit w) (let d : 64 * (4 * x) + k ≡ 256 * x + k = omega arith in d) ∙ sym (cell_at n x (x * n) refl (bit_relation w) k h)
+
+  -- the same where the places of the row are carried along
+  pub bytes_carried : (at from : ℕ) (l' : List ℕ) → at ≡ x * n → from ≡ 4 * x → l' ≡ take at l ++ tab n (row_bit w from) ++ drop (at + n) l → l' ≡ tab ((x + 1) * n) C ++ drop ((x + 1) * n) o
+  bytes_carried at from l' a f p =
+      bytes_more l'
+      (p ∙ ap (λ (k : ℕ). take k l ++ tab n (row_bit w from) ++ drop (k + n) l) a ∙ ap (λ (k : ℕ). take (x * n) l ++ tab n (row_bit w k) ++ drop (x * n + n) l) f)
 
   pub bytes_end : x ≤ n → n ≤ x → l ≡ byte_table n (bit_relation w) ++ drop (n * n) o
   unfolding byte_table

@@ -1,4 +1,5 @@
-// What an accepted conversion writes over the front of a buffer, row after row.
+// What an accepted conversion writes over the front of a buffer, row after row. The starts of a row in the bytes and in the words are
+// carried along by adding n and 4, and those of a word's bytes by adding 64, so that no product finds them.
 ghost use Rattle.std.specs.Prelude.{◌≡◌, false, ◌++◌, ◌+◌, ◌*◌, ◌≤◌, ◌<◌, length, take, drop};
 ghost use Rattle.model.specs.Sets.{tab, upto};
 ghost use Rattle.sets.specs.NodeSets.{always, shifted};
@@ -50,9 +51,13 @@ pub fn pack_into(n: usize, bytes: &[u8], words: &mut [u64])
     requires { (n ≤ 256) × ((length bytes.now ≡ n * n) × (4 * n ≤ length words.old)) }
     ensures { words.new ≡ packed n bytes.now ++ drop (4 * n) words.old }
 {
+    let mut at = 0;
+    let mut to = 0;
     for x in 0..n {
-        let r = pack_row(bytes, x * n, n);
-        words[4 * x..4 * x + 4].copy_from_slice(&r);
+        let r = pack_row(bytes, at, n);
+        words[to..to + 4].copy_from_slice(&r);
+        at += n;
+        to += 4;
     }
 }
 
@@ -89,14 +94,16 @@ pub fn unpack_row(words: &[u64], from: usize, n: usize, bytes: &mut [u8], at: us
         ≡ take at bytes.old ++ tab n (row_bit words.now from) ++ drop (at + n) bytes.old }
 {
     let whole = n / 64;
+    let mut y = 0;
     for i in 0..whole {
-        unpack_word(words[from + i], 64, bytes, at + 64 * i);
+        unpack_word(words[from + i], 64, bytes, at + y);
+        y += 64;
     }
     let left = n % 64;
     if left == 0 {
         return;
     }
-    unpack_word(words[from + whole], left, bytes, at + 64 * whole);
+    unpack_word(words[from + whole], left, bytes, at + y);
 }
 
 // The rows of a table of bits become rows of bytes.
@@ -104,7 +111,11 @@ pub fn unpack_into(n: usize, words: &[u64], bytes: &mut [u8])
     requires { (n ≤ 256) × ((4 * n ≤ length words.now) × (n * n ≤ length bytes.old)) }
     ensures { bytes.new ≡ unpacked n words.now ++ drop (n * n) bytes.old }
 {
+    let mut at = 0;
+    let mut from = 0;
     for x in 0..n {
-        unpack_row(words, 4 * x, n, bytes, x * n);
+        unpack_row(words, from, n, bytes, at);
+        at += n;
+        from += 4;
     }
 }

@@ -7,4 +7,4 @@ use Rattle.bits.specs.Words.{words}
 use Rattle.packing.proofs.convert.pack_into.Given as goal
 
 abbrev pub invariant-loop-x : goal.invariant-loop-x
-invariant-loop-x l = l.words ≡ words (4 * l.x) (bit_cell l.n (byte_relation l.n l.bytes)) ++ drop (4 * l.x) l.initial.words
+invariant-loop-x l = (l.at ≡ l.x * l.n) × (l.to ≡ 4 * l.x) × l.words ≡ words (4 * l.x) (bit_cell l.n (byte_relation l.n l.bytes)) ++ drop (4 * l.x) l.initial.words

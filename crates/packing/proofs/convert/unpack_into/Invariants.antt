@@ -8,4 +8,4 @@ use Rattle.bits.specs.BitTables.{bit_relation}
 use Rattle.packing.proofs.convert.unpack_into.Given as goal
 
 abbrev pub invariant-loop-x : goal.invariant-loop-x
-invariant-loop-x l = l.bytes ≡ tab (l.x * l.n) (cell l.n (bit_relation l.words)) ++ drop (l.x * l.n) l.initial.bytes
+invariant-loop-x l = (l.at ≡ l.x * l.n) × (l.from ≡ 4 * l.x) × l.bytes ≡ tab (l.x * l.n) (cell l.n (bit_relation l.words)) ++ drop (l.x * l.n) l.initial.bytes
