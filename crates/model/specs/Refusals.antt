@@ -147,10 +147,4 @@ Tells n post f = (x : ℕ) (b : Bool) → x < n → post x b → b ≡ f x
 
 -- what a search by a test finds: for every f that the test tells, the least number below n that passes f, or nothing where none does
 abbrev pub FindsLowest : ℕ → (ℕ → Bool → Type 0) → Option ℕ → Type 0
--- a test tells f of every number below n
-abbrev pub Tells : ℕ → (ℕ → Bool → Type 0) → (ℕ → Bool) → Type 0
-Tells n post f = (x : ℕ) (b : Bool) → x < n → post x b → b ≡ f x
-
--- what a search by a test finds: for every f that the test tells, the least number below n that passes f, or nothing where none does
-abbrev pub FindsLowest : ℕ → (ℕ → Bool → Type 0) → Option ℕ → Type 0
 FindsLowest n post r = (f : ℕ → Bool) → Tells n post f → IsLowest n f r
