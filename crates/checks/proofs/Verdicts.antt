@@ -1,26 +1,34 @@
 -- Laws of the verdicts that the checks of a service are made of.
-use Prim.Native.Nat.{ℕ, ◌<◌, ◌≤◌}
-use native.Mathlib.Omega.{arith}
+use Prim.Native.Nat.{ℕ, ◌≤◌}
 use mathlib.Core.Path.{◌≡◌, refl, sym, ap, ◌∙◌}
 use mathlib.Core.Bool.{Bool, true, false, not, cond}
 use mathlib.Core.List.{List, [], ◌∷◌, ◌++◌, append_assoc}
 use lib.Dec.{eqb}
 use lib.ListN.{length, take}
 use lib.Seq.{length-take-le}
-use borrow.Author.Tests.{eqb-true, not-false}
+use borrow.Author.Tests.{eq-eqb, ne_eqb}
 use Rattle.model.specs.declared.Cursor.{Cursor}
 use Rattle.model.specs.declared.Reply.{Reply}
 use Rattle.model.specs.Tree.{size_of}
-use Rattle.model.specs.Refusals.{Check, lowest, verdict, reply}
+use Rattle.model.specs.Sets.{any}
+use Rattle.model.specs.Refusals.{Check, lowest, refuse_at, verdict}
 use Rattle.model.specs.Checks.{bad_node, tree_checks_at, tree_checks, query_checks, node_checks, cursor_checks, set_checks, room_checks, table_checks}
 use Rattle.model.specs.Pages.{row_of, has_begun}
 use Rattle.model.specs.Accepted.{AcceptedTree}
-use Rattle.model.proofs.Refusals.{Passes-front, numbered, accepted, stop_at, pass_at, stop_all, pass_all}
+use Rattle.model.proofs.Refusals.{Passes-front, numbered, accepted, stop_all, pass_all}
 use Rattle.model.proofs.Accepted.{tree_ordered, columns_most, tree_numbered, query_numbered}
 
 -- a verdict of 0, from the reply that equals it
 pub zero_of : (cs : List Check) (r : Reply) → r ≡ verdict cs → r.number ≡ 0 → (verdict cs).number ≡ 0
 zero_of cs r p z = ap (λ (r : Reply). r.number) (sym p) ∙ z
+
+-- numbers that are to be equal, and are not, and are
+
+pub unlike : (a b : ℕ) → (a ≡ b → ⊥) → not (eqb a b) ≡ true
+unlike a b h = rw (ne_eqb a b h)
+
+pub alike : (a b : ℕ) → a ≡ b → not (eqb a b) ≡ false
+alike a b h = rw (eq-eqb a b h)
 
 -- The checks have numbers other than 0.
 
@@ -72,34 +80,21 @@ tables_fit t q nodes columns r p z =
     let v = Passes-front (tree_checks t) (query_checks q 0 columns ++ node_checks t columns nodes) (tree_numbered t) (zero_of (table_checks t q columns nodes) r p z) in
     (tree_ordered t v.0).sound.at_most
 
--- a place in a list that is as long as it should be fits a reply
-pub place_fits : (len due x : ℕ) (b : Bool) → x < len → b ≡ not (eqb len due) → b ≡ false → due ≤ 256 → x < 65536
-place_fits len due x b l e h m = let w : len ≡ due = eqb-true len due (not-false (eqb len due) (sym e ∙ h)) in omega arith
-
 pub room_of : (room size m : ℕ) (s : Reply) → s ≡ verdict (room_checks room size) → size ≡ m → s ≡ verdict (room_checks room m)
 room_of room size m s p e = p ∙ ap (λ (k : ℕ). verdict (room_checks room k)) e
 
 -- The check of a cursor.
 
-module _ (t : List ℕ) (columns : ℕ) (c : Cursor) (used x : ℕ) where
+module _ (t : List ℕ) (columns : ℕ) (c : Cursor) (used : ℕ) where
   abbrev numbers : List ℕ
   numbers = c.first ∷ c.second ∷ c.third ∷ []
 
-  -- the lowest bad number among those that are used
-  place : x ≡ lowest (length (take used numbers)) (bad_node t (take used numbers)) → used ≡ cond (has_begun c) columns 0 → columns ≤ 3
-      → x ≡ lowest (cond (has_begun c) columns 0) (bad_node t (row_of columns c))
-  unfolding lowest
-  place p e h = p ∙ go (has_begun c) refl
+  -- the checks of the numbers that are used are those of the cursor
+  pub cursor_listed : (r : Reply) → r ≡ verdict (refuse_at 17 (length (take used numbers)) (bad_node t (take used numbers)) ∷ []) → used ≡ cond (has_begun c) columns 0 → columns ≤ 3
+      → r ≡ verdict (cursor_checks t columns c)
+  unfolding cursor_checks verdict lowest any
+  cursor_listed r p e h = p ∙ go (has_begun c) refl
     where
-      go : (b : Bool) → has_begun c ≡ b → lowest (length (take used numbers)) (bad_node t (take used numbers)) ≡ lowest (cond (has_begun c) columns 0) (bad_node t (row_of columns c))
+      go : (b : Bool) → has_begun c ≡ b → verdict (refuse_at 17 (length (take used numbers)) (bad_node t (take used numbers)) ∷ []) ≡ verdict (refuse_at 17 (cond (has_begun c) columns 0) (bad_node t (row_of columns c)) ∷ [])
       go true d = let u : used ≡ columns = e ∙ rw d in rw (d, u, length-take-le columns numbers h)
       go false d = let u : used ≡ 0 = e ∙ rw d in rw (d, u)
-
-  module _ (r : Reply) (p : x ≡ lowest (length (take used numbers)) (bad_node t (take used numbers))) (e : used ≡ cond (has_begun c) columns 0) (h : columns ≤ 3) where
-    pub cursor_stop : r ≡ reply 17 x → x < used → r ≡ verdict (cursor_checks t columns c)
-    unfolding cursor_checks
-    cursor_stop a l = stop_at 17 [] (cond (has_begun c) columns 0) x (bad_node t (row_of columns c)) r a (place p e h) (rw (← e) l)
-
-    pub cursor_pass : r ≡ reply 0 0 → used ≤ x → r ≡ verdict (cursor_checks t columns c)
-    unfolding cursor_checks verdict
-    cursor_pass a l = pass_at 17 [] (cond (has_begun c) columns 0) x (bad_node t (row_of columns c)) r a (place p e h) (rw (← e) l)

@@ -2,12 +2,14 @@
 // one pass, so that all of it is linear in what is lent.
 #![tactic(auto)]
 
-ghost use Rattle.std.specs.Prelude.{◌≡◌, cond, ◌++◌, ◌*◌, ◌≤◌, ◌<◌, length};
+ghost use Rattle.std.specs.Prelude.{◌≡◌, cond, [], ◌∷◌, ◌++◌, ◌*◌, ◌≤◌, ◌<◌, length};
 ghost use Rattle.model.specs.Sets.{any};
 ghost use Rattle.model.specs.Tree.{size_of};
-ghost use Rattle.model.specs.Refusals.{lowest, verdict};
+ghost use Rattle.model.specs.Refusals.{IsLowest, refuse_at, told, verdict};
 ghost use Rattle.model.specs.Accepted.{AcceptedTree};
 ghost use Rattle.model.specs.Checks.{bad_node, bad_byte, tree_checks, query_checks, node_checks, cursor_checks, set_checks, room_checks, table_checks, image_checks, pairs_checks, page_checks};
+
+use model::{Cursor, Refusal, lowest};
 
 // What is lent beside the tables.
 
@@ -16,41 +18,29 @@ fn is_bad_node(tree: &[u16], nodes: &[u16], k: usize) -> bool
     requires { k < length nodes.now }
     ensures { result ≡ bad_node tree.now nodes.now k }
 {
-    let n = tree.len() / 2;
-    let x = model::wide(nodes[k]);
-    !(x < n)
+    usize::from(nodes[k]) >= tree.len() / 2
 }
 
-// The lowest number of a list that is no node, or the length of the list: for an assignment, and for the row of a cursor. One
-// turn a number.
-fn lowest_bad_node(tree: &[u16], nodes: &[u16]) -> usize
-    ensures { result ≡ lowest (length nodes.now) (bad_node tree.now nodes.now) }
+// 17 for each number of a list: for an assignment, and for the row of a cursor. Places fit a reply where the list is short.
+fn check_listed(tree: &[u16], nodes: &[u16]) -> Result<(), Refusal>
+    requires { length nodes.now ≤ 256 }
+    ensures { told result ≡ verdict (refuse_at 17 (length nodes.now) (bad_node tree.now nodes.now) ∷ []) }
 {
-    let n = nodes.len();
-    let mut k = 0;
-    while k < n {
-        if is_bad_node(tree, nodes, k) {
-            return k;
-        }
-        k += 1;
+    match lowest(nodes.len(), |k| is_bad_node(tree, nodes, k)) {
+        Some(k) => Err(Refusal::NoNode(k as u16)),
+        None => Ok(()),
     }
-    n
 }
 
-// The checks 16 and 17. Places fit a reply where the number of variables is an accepted one.
-fn check_nodes(tree: &[u16], columns: usize, nodes: &[u16]) -> model::Reply
+// The checks 16 and 17.
+fn check_nodes(tree: &[u16], columns: usize, nodes: &[u16]) -> Result<(), Refusal>
     requires { columns ≤ 256 }
-    ensures { result ≡ verdict (node_checks tree.now columns nodes.now) }
+    ensures { told result ≡ verdict (node_checks tree.now columns nodes.now) }
 {
-    let unlike = nodes.len() != columns;
-    if unlike {
-        return model::reply_at(16, 0);
+    if nodes.len() != columns {
+        return Err(Refusal::NodeCount);
     }
-    let k = lowest_bad_node(tree, nodes);
-    if k < nodes.len() {
-        return model::reply_at(17, k);
-    }
-    model::reply_at(0, 0)
+    check_listed(tree, nodes)
 }
 
 // How many of a cursor's numbers are used.
@@ -61,17 +51,13 @@ fn used_numbers(begun: bool, columns: usize) -> usize
 }
 
 // Refusal 17: a used number of a begun cursor is no node.
-fn check_cursor(tree: &[u16], columns: usize, cursor: model::Cursor) -> model::Reply
+fn check_cursor(tree: &[u16], columns: usize, cursor: Cursor) -> Result<(), Refusal>
     requires { columns ≤ 3 }
-    ensures { result ≡ verdict (cursor_checks tree.now columns cursor) }
+    ensures { told result ≡ verdict (cursor_checks tree.now columns cursor) }
 {
     let used = used_numbers(cursor.begun != 0, columns);
     let row = [cursor.first, cursor.second, cursor.third];
-    let k = lowest_bad_node(tree, &row[..used]);
-    if k < used {
-        return model::reply_at(17, k);
-    }
-    model::reply_at(0, 0)
+    check_listed(tree, &row[..used])
 }
 
 // Refusal 19: whether a byte of a set is above 1.
@@ -86,73 +72,60 @@ fn is_bad_byte(from: &[u8], i: usize) -> bool
 fn has_bad_byte(from: &[u8]) -> bool
     ensures { result ≡ any (length from.now) (bad_byte from.now) }
 {
-    let n = from.len();
     let mut found = false;
-    let mut i = 0;
-    while i < n {
-        found = is_bad_byte(from, i) | found;
-        i += 1;
+    for b in from {
+        found |= 1 < *b;
     }
     found
 }
 
-// The lowest byte above 1, or the number of bytes. It is searched for only where there is one.
-pub fn lowest_bad_byte(from: &[u8]) -> usize
-    ensures { result ≡ lowest (length from.now) (bad_byte from.now) }
+// The lowest byte above 1, if there is one. It is searched for only then.
+pub fn lowest_bad_byte(from: &[u8]) -> Option<usize>
+    ensures { IsLowest (length from.now) (bad_byte from.now) result }
 {
-    let n = from.len();
     if !has_bad_byte(from) {
-        return n;
+        return None;
     }
-    let mut i = 0;
-    while i < n {
-        if is_bad_byte(from, i) {
-            return i;
-        }
-        i += 1;
-    }
-    n
+    lowest(from.len(), |i| is_bad_byte(from, i))
 }
 
 // The checks 18 and 19. Places fit a reply where the tree is an accepted one.
-fn check_set(tree: &[u16], from: &[u8]) -> model::Reply
+fn check_set(tree: &[u16], from: &[u8]) -> Result<(), Refusal>
     requires { size_of tree.now ≤ 256 }
-    ensures { result ≡ verdict (set_checks tree.now from.now) }
+    ensures { told result ≡ verdict (set_checks tree.now from.now) }
 {
-    let n = tree.len() / 2;
-    let unlike = from.len() != n;
-    if unlike {
-        return model::reply_at(18, 0);
+    if from.len() != tree.len() / 2 {
+        return Err(Refusal::SetLength);
     }
-    let i = lowest_bad_byte(from);
-    if i < from.len() {
-        return model::reply_at(19, i);
+    match lowest_bad_byte(from) {
+        Some(i) => Err(Refusal::BadByte(i as u16)),
+        None => Ok(()),
     }
-    model::reply_at(0, 0)
 }
 
 // Refusal 20: a buffer has room for less than is needed.
-pub fn check_room(room: usize, needed: usize) -> model::Reply
-    ensures { result ≡ verdict (room_checks room needed) }
+pub fn check_room(room: usize, needed: usize) -> Result<(), Refusal>
+    ensures { told result ≡ verdict (room_checks room needed) }
 {
-    let short = room < needed;
-    if short {
-        return model::reply_at(20, 0);
+    if room < needed {
+        return Err(Refusal::Room);
     }
-    model::reply_at(0, 0)
+    Ok(())
 }
 
 // The checks of the services, each with what it is lent. The tree is an accepted one, and is not checked again.
 
 // The checks 5 to 17.
-pub fn check_tables(tree: &[u16], query: &[u16], columns: usize, nodes: &[u16]) -> model::Reply
+pub fn check_tables(
+    tree: &[u16],
+    query: &[u16],
+    columns: usize,
+    nodes: &[u16],
+) -> Result<(), Refusal>
     requires { AcceptedTree tree.now }
-    ensures { result ≡ verdict (table_checks tree.now query.now columns nodes.now) }
+    ensures { told result ≡ verdict (table_checks tree.now query.now columns nodes.now) }
 {
-    let q = query::check_query(query, columns);
-    if q.number != 0 {
-        return q;
-    }
+    query::check_query(query, columns)?;
     check_nodes(tree, columns, nodes)
 }
 
@@ -164,19 +137,13 @@ pub fn check_image(
     nodes: &[u16],
     from: &[u8],
     room: usize,
-) -> model::Reply
+) -> Result<(), Refusal>
     requires { AcceptedTree tree.now }
-    ensures { result
+    ensures { told result
         ≡ verdict (image_checks tree.now query.now columns nodes.now from.now room) }
 {
-    let v = check_tables(tree, query, columns, nodes);
-    if v.number != 0 {
-        return v;
-    }
-    let s = check_set(tree, from);
-    if s.number != 0 {
-        return s;
-    }
+    check_tables(tree, query, columns, nodes)?;
+    check_set(tree, from)?;
     check_room(room, tree.len() / 2)
 }
 
@@ -195,21 +162,18 @@ pub fn check_pairs(
     columns: usize,
     nodes: &[u16],
     room: usize,
-) -> model::Reply
+) -> Result<(), Refusal>
     requires { AcceptedTree tree.now }
-    ensures { result ≡ verdict (pairs_checks tree.now query.now columns nodes.now room) }
+    ensures { told result ≡ verdict (pairs_checks tree.now query.now columns nodes.now room) }
 {
-    let v = check_tables(tree, query, columns, nodes);
-    if v.number != 0 {
-        return v;
-    }
+    check_tables(tree, query, columns, nodes)?;
     check_room(room, square(tree.len() / 2))
 }
 
 // The checks 5 to 15 of a page: the tree and the query.
-pub fn check_listing(tree: &[u16], query: &[u16], columns: usize) -> model::Reply
+pub fn check_listing(tree: &[u16], query: &[u16], columns: usize) -> Result<(), Refusal>
     requires { AcceptedTree tree.now }
-    ensures { result ≡ verdict (tree_checks tree.now ++ query_checks query.now 1 columns) }
+    ensures { told result ≡ verdict (tree_checks tree.now ++ query_checks query.now 1 columns) }
 {
     query::check_query_for(query, 1, columns)
 }
@@ -218,16 +182,13 @@ pub fn check_listing(tree: &[u16], query: &[u16], columns: usize) -> model::Repl
 pub fn check_paging(
     tree: &[u16],
     columns: usize,
-    cursor: model::Cursor,
+    cursor: Cursor,
     room: usize,
-) -> model::Reply
+) -> Result<(), Refusal>
     requires { columns ≤ 3 }
-    ensures { result ≡ verdict (cursor_checks tree.now columns cursor ++ room_checks room columns) }
+    ensures { told result ≡ verdict (cursor_checks tree.now columns cursor ++ room_checks room columns) }
 {
-    let c = check_cursor(tree, columns, cursor);
-    if c.number != 0 {
-        return c;
-    }
+    check_cursor(tree, columns, cursor)?;
     check_room(room, columns)
 }
 
@@ -236,15 +197,12 @@ pub fn check_page(
     tree: &[u16],
     query: &[u16],
     columns: usize,
-    cursor: model::Cursor,
+    cursor: Cursor,
     room: usize,
-) -> model::Reply
+) -> Result<(), Refusal>
     requires { AcceptedTree tree.now }
-    ensures { result ≡ verdict (page_checks tree.now query.now columns cursor room) }
+    ensures { told result ≡ verdict (page_checks tree.now query.now columns cursor room) }
 {
-    let v = check_listing(tree, query, columns);
-    if v.number != 0 {
-        return v;
-    }
+    check_listing(tree, query, columns)?;
     check_paging(tree, columns, cursor, room)
 }

@@ -17,6 +17,7 @@ pub mod Parties
 pub mod Sharing
 pub mod Exactness
 pub mod Rule
+pub mod Searches
 pub mod Quick
 pub mod Made
 pub mod Answers

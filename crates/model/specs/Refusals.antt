@@ -133,6 +133,10 @@ abbrev pub told_read : Result Read Refusal → ReadReply
 told_read (Ok q) = record { number = 0; place = 0; count = q.count; columns = q.columns }
 told_read (Err e) = record { number = (refused e).number; place = (refused e).place; count = 0; columns = 0 }
 
+-- the lowest place below n that is bad, or none where none is
+abbrev pub IsLowest : ℕ → (ℕ → Bool) → Option ℕ → Type 0
+IsLowest n f r = MatchOption r (lowest n f ≡ n) (λ x. (x < n) × (x ≡ lowest n f))
+
 -- a test that may be asked of every number below n
 abbrev pub CallableBelow : ℕ → (ℕ → Type 0) → Type 0
 CallableBelow n pre = (x : ℕ) → x < n → pre x
@@ -140,5 +144,4 @@ CallableBelow n pre = (x : ℕ) → x < n → pre x
 -- what a search by a test finds: for every f that the test tells, the least number below n that passes f, or nothing where none does
 abbrev pub FindsLowest : ℕ → (ℕ → Bool → Type 0) → Option ℕ → Type 0
 FindsLowest n post r =
-    (f : ℕ → Bool) → ((x : ℕ) (b : Bool) → x < n → post x b → b ≡ f x)
-    → MatchOption r (lowest n f ≡ n) (λ x. (x < n) × (x ≡ lowest n f))
+    (f : ℕ → Bool) → ((x : ℕ) (b : Bool) → x < n → post x b → b ≡ f x) → IsLowest n f r

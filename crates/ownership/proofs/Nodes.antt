@@ -6,47 +6,19 @@ use mathlib.Core.Bool.{Bool, false, ◌||◌, and-true, or-false}
 use mathlib.Core.List.{List}
 use lib.Dec.{ltb}
 use lib.ListN.{length}
-use borrow.Author.Tests.{eq-eqb, ne_eqb, lt-ltb}
+use borrow.Author.Tests.{ne_eqb, lt-ltb}
 use Rattle.model.specs.Sets.{any}
-use Rattle.model.specs.Checks.{bad_tree_length, bad_parent, bad_tag}
+use Rattle.model.specs.Refusals.{reply, verdict}
+use Rattle.model.specs.Checks.{bad_tree_length, bad_tag}
 use Rattle.model.specs.Parties.{shared_tree, owner, bad_owner}
 use Rattle.model.proofs.Booleans.{no_or}
 use Rattle.model.proofs.Exists.{any_seen, any_or}
 use Rattle.model.proofs.Accepted.{length_fits}
-use Rattle.ownership.specs.Nodes.{node_fails, number_fails}
+use Rattle.ownership.specs.Nodes.{number_fails, number_checks}
 
--- check 6 is that of the parents, 7 that of the tags, and 30 that of the owners
-
-module _ (k : ℕ) (t : List ℕ) where
-  parents : k ≡ 6 → node_fails k t ≡ bad_parent (shared_tree t)
-  parents e = rw (eq-eqb k 6 e)
-
-  tags : (k ≡ 6 → ⊥) → k ≡ 7 → node_fails k t ≡ bad_tag (shared_tree t)
-  tags n e = rw (ne_eqb k 6 n, eq-eqb k 7 e)
-
-  owners : (k ≡ 6 → ⊥) → (k ≡ 7 → ⊥) → node_fails k t ≡ bad_owner t
-  owners n m = rw (ne_eqb k 6 n, ne_eqb k 7 m)
-
-  module _ (x : ℕ) (b : Bool) where
-    pub parent_fails : k ≡ 6 → b ≡ bad_parent (shared_tree t) x → b ≡ node_fails k t x
-    parent_fails e f = f ∙ sym (ap (λ (g : ℕ → Bool). g x) (parents e))
-
-    pub tag_fails : (k ≡ 6 → ⊥) → k ≡ 7 → b ≡ bad_tag (shared_tree t) x → b ≡ node_fails k t x
-    tag_fails n e f = f ∙ sym (ap (λ (g : ℕ → Bool). g x) (tags n e))
-
-    pub owner_fails : (k ≡ 6 → ⊥) → (k ≡ 7 → ⊥) → b ≡ bad_owner t x → b ≡ node_fails k t x
-    owner_fails n m f = f ∙ sym (ap (λ (g : ℕ → Bool). g x) (owners n m))
-
-  pub parents_pass : (x : ℕ) → k ≡ 6 → any x (node_fails k t) ≡ false → any x (bad_parent (shared_tree t)) ≡ false
-  parents_pass x e h = ap (any x) (sym (parents e)) ∙ h
-
--- the place of a node fits a reply, where the table is not too long
-pub place_fits : (l x : ℕ) (b : Bool) → x < l / 3 → b ≡ bad_tree_length 3 l → b ≡ false → x < 65536
-place_fits l x b n e h = let (some, whole, most) = length_fits 3 768 l (sym e ∙ h) in omega arith
-
--- a table that is not too short has a node
-pub some_node : (l : ℕ) (b : Bool) → b ≡ bad_tree_length 3 l → b ≡ false → 0 < l / 3
-some_node l b e h = let (some, whole, most) = length_fits 3 768 l (sym e ∙ h) in omega arith
+-- a table that is neither too long nor too short
+pub some_nodes : (l : ℕ) (b : Bool) → b ≡ bad_tree_length 3 l → b ≡ false → (0 < l / 3) × (l / 3 ≤ 256)
+some_nodes l b e h = let (some, whole, most) = length_fits 3 768 l (sym e ∙ h) in (omega arith, omega arith)
 
 -- whether some node has a bad tag or a bad owner, node by node
 
@@ -70,8 +42,6 @@ module _ (t : List ℕ) where
         no_or (any (length t / 3) (bad_tag (shared_tree t))) (any (length t / 3) (bad_owner t))
         (any_or (length t / 3) (bad_tag (shared_tree t)) (bad_owner t) ∙ sym e ∙ h)
 
-    pub no_tag : any (length t / 3) (node_fails 7 t) ≡ false
-    no_tag = neither.0
-
-    pub no_owner : any (length t / 3) (node_fails 30 t) ≡ false
-    no_owner = neither.1
+    pub no_number : reply 0 0 ≡ verdict (number_checks t)
+    unfolding verdict
+    no_number = rw (neither.0, neither.1)

@@ -2,14 +2,16 @@
 // linear in the table's length.
 #![tactic(auto)]
 
-ghost use Rattle.std.specs.Prelude.{◌≡◌, false, ◌<◌, ◌/◌, length};
+ghost use Rattle.std.specs.Prelude.{◌≡◌, false, [], ◌∷◌, ◌<◌, ◌≤◌, ◌/◌, length};
 ghost use Rattle.model.specs.Sets.{any};
 ghost use Rattle.model.specs.Axes.{descendant_or_self};
-ghost use Rattle.model.specs.Refusals.{lowest, verdict};
+ghost use Rattle.model.specs.Refusals.{refuse_at, told, verdict};
 ghost use Rattle.model.specs.Checks.{bad_tree_length, bad_parent, bad_tag};
 ghost use Rattle.model.specs.Parties.{shared_tree, owner, bad_owner, shared_checks, party_checks, shared_verdict};
 ghost use Rattle.model.specs.Accepted.{Falling};
-ghost use Rattle.ownership.specs.Nodes.{node_fails, number_fails};
+ghost use Rattle.ownership.specs.Nodes.{node_fails, number_fails, number_checks};
+
+use model::{Refusal, lowest};
 
 // Refusal 5: whether a table of l numbers has a bad length.
 fn is_bad_tree_length(l: usize) -> bool
@@ -18,12 +20,15 @@ fn is_bad_tree_length(l: usize) -> bool
     (l == 0) | ((l % 3 != 0) | (768 < l))
 }
 
+// The numbers of a node. `tree` has twins of the first two at two numbers a node: over both strides they would be no plainer, with bounds
+// that are products of two variables.
+
 // The parent of node x.
 pub fn parent(tree: &[u16], x: usize) -> usize
     requires { x < length tree.now / 3 }
     ensures { result ≡ (shared_tree tree.now).parent x }
 {
-    model::wide(tree[3 * x])
+    usize::from(tree[3 * x])
 }
 
 // The tag of node x.
@@ -85,35 +90,42 @@ fn is_bad_owner(tree: &[u16], x: usize) -> bool
     (2 < o) | ((x == 0) & (o != 0))
 }
 
-// Whether node x fails the check of refusal k, 6, 7 or 30, where no node before it does.
-fn is_bad(tree: &[u16], k: usize, x: usize) -> bool
-    requires { (x < length tree.now / 3) × (any x (node_fails k tree.now) ≡ false) }
-    ensures { result ≡ node_fails k tree.now x }
+// 6. The time is linear: the climb from the node before x ends at x's parent, and what it leaves behind is no ancestor of x or of a
+// later node, so each node is left behind once in all. A climb that misses x's parent is the last. It is no `model::lowest`, since the test
+// may be made of x only where no node before x fails it.
+fn check_parents(tree: &[u16]) -> Result<(), Refusal>
+    requires { length tree.now / 3 ≤ 256 }
+    ensures { told result ≡ verdict (refuse_at 6 (length tree.now / 3) (node_fails 6 tree.now) ∷ []) }
 {
-    if k == 6 {
-        return is_bad_parent(tree, x);
+    for x in 0..tree.len() / 3 {
+        let bad = is_bad_parent(tree, x);
+        if bad {
+            return Err(Refusal::BadParent(x as u16));
+        }
     }
-    if k == 7 {
-        return is_bad_tag(tree, x);
-    }
-    is_bad_owner(tree, x)
+    Ok(())
 }
 
-// The lowest node that fails the check of refusal k, or the number of nodes. For the parents too the time is linear: the
-// climb from the node before x ends at x's parent, and what it leaves behind is no ancestor of x or of a later node, so each
-// node is left behind once in all. A climb that misses x's parent is the last.
-fn lowest_bad(tree: &[u16], k: usize) -> usize
-    ensures { result ≡ lowest (length tree.now / 3) (node_fails k tree.now) }
+// 7.
+fn check_tags(tree: &[u16]) -> Result<(), Refusal>
+    requires { length tree.now / 3 ≤ 256 }
+    ensures { told result ≡ verdict (refuse_at 7 (length tree.now / 3) (node_fails 7 tree.now) ∷ []) }
 {
-    let n = tree.len() / 3;
-    let mut x = 0;
-    while x < n {
-        if is_bad(tree, k, x) {
-            return x;
-        }
-        x += 1;
+    match lowest(tree.len() / 3, |x| is_bad_tag(tree, x)) {
+        Some(x) => Err(Refusal::ReservedTag(x as u16)),
+        None => Ok(()),
     }
-    n
+}
+
+// 30.
+fn check_owners(tree: &[u16]) -> Result<(), Refusal>
+    requires { length tree.now / 3 ≤ 256 }
+    ensures { told result ≡ verdict (refuse_at 30 (length tree.now / 3) (node_fails 30 tree.now) ∷ []) }
+{
+    match lowest(tree.len() / 3, |x| is_bad_owner(tree, x)) {
+        Some(x) => Err(Refusal::BadOwner(x as u16)),
+        None => Ok(()),
+    }
 }
 
 // Whether some node has a bad tag or a bad owner. Past node 0 it goes through all nodes without a branch and without a look at their
@@ -124,69 +136,50 @@ fn has_bad_number(tree: &[u16]) -> bool
 {
     let n = tree.len() / 3;
     let mut found = is_bad_tag(tree, 0) | is_bad_owner(tree, 0);
-    let mut x = 1;
-    while x < n {
-        let g = tag(tree, x);
-        let o = owner(tree, x);
-        found = ((65533 < g) | (2 < o)) | found;
-        x += 1;
+    for x in 1..n {
+        found |= (65533 < tag(tree, x)) | (2 < owner(tree, x));
     }
     found
 }
 
-// The lowest node that fails the check of refusal k, searched for only where bad says that there may be one.
-fn lowest_if(bad: bool, tree: &[u16], k: usize) -> usize
-    requires { bad ≡ false → any (length tree.now / 3) (node_fails k tree.now) ≡ false }
-    ensures { result ≡ lowest (length tree.now / 3) (node_fails k tree.now) }
+// 7 and 30. The lowest bad node is searched for only where there is one.
+fn check_numbers(tree: &[u16]) -> Result<(), Refusal>
+    requires { (0 < length tree.now / 3) × (length tree.now / 3 ≤ 256) }
+    ensures { told result ≡ verdict (number_checks tree.now) }
 {
-    if bad {
-        return lowest_bad(tree, k);
+    if !has_bad_number(tree) {
+        return Ok(());
     }
-    tree.len() / 3
+    check_tags(tree)?;
+    check_owners(tree)
 }
 
 // The verdict on a shared table: 5, 6, 7 and 30. Where it is accepted, one pass over the parents and one over tags and owners.
-pub fn check_table(tree: &[u16]) -> model::Reply
-    ensures { result ≡ verdict (shared_checks tree.now) }
+pub fn check_table(tree: &[u16]) -> Result<(), Refusal>
+    ensures { told result ≡ verdict (shared_checks tree.now) }
 {
     if is_bad_tree_length(tree.len()) {
-        return model::reply_at(5, 0);
+        return Err(Refusal::TreeSize);
     }
-    let n = tree.len() / 3;
-    let x = lowest_bad(tree, 6);
-    if x < n {
-        return model::reply_at(6, x);
-    }
-    let bad = has_bad_number(tree);
-    let y = lowest_if(bad, tree, 7);
-    if y < n {
-        return model::reply_at(7, y);
-    }
-    let z = lowest_if(bad, tree, 30);
-    if z < n {
-        return model::reply_at(30, z);
-    }
-    model::reply_at(0, 0)
+    check_parents(tree)?;
+    check_numbers(tree)
 }
 
 // Refusal 31: the party is not 1 or 2.
-fn check_party(party: u16) -> model::Reply
-    ensures { result ≡ verdict (party_checks party) }
+fn check_party(party: u16) -> Result<(), Refusal>
+    ensures { told result ≡ verdict (party_checks party) }
 {
     let bad = (party == 0) | (2 < party);
     if bad {
-        return model::reply_at(31, 0);
+        return Err(Refusal::UnknownParty);
     }
-    model::reply_at(0, 0)
+    Ok(())
 }
 
 // The verdict on a shared table and a party.
-pub fn check(tree: &[u16], party: u16) -> model::Reply
-    ensures { result ≡ shared_verdict tree.now party }
+pub fn check(tree: &[u16], party: u16) -> Result<(), Refusal>
+    ensures { told result ≡ shared_verdict tree.now party }
 {
-    let v = check_table(tree);
-    if v.number != 0 {
-        return v;
-    }
+    check_table(tree)?;
     check_party(party)
 }

@@ -2,12 +2,14 @@
 // table's length.
 #![tactic(auto)]
 
-ghost use Rattle.std.specs.Prelude.{◌≡◌, ◌*◌, ◌≤◌, ◌<◌, get_or};
+ghost use Rattle.std.specs.Prelude.{◌≡◌, ◌*◌, ◌≤◌, ◌<◌, [], ◌∷◌, get_or, eqb};
 ghost use Rattle.model.specs.QueryTable.{entries_of, kind, entry, last_of};
-ghost use Rattle.model.specs.Refusals.{lowest, verdict};
+ghost use Rattle.model.specs.Refusals.{refuse_at, refuse_here, told, verdict};
 ghost use Rattle.model.specs.Kinds.{is_path, left_path, left_expr, right_path, right_expr, names_variable, has_left, has_right};
 ghost use Rattle.model.specs.Checks.{bad_query_length, bad_variable_count, bad_kind, bad_field, bad_operand, bad_sort, bad_entry, misused, bad_last, use_checks, entry_checks, query_checks};
 ghost use Rattle.query.specs.Uses.{one_more, with_use, Counted};
+
+use model::{Entry, Kind, Refusal, lowest};
 
 // Reading the table.
 
@@ -15,10 +17,7 @@ ghost use Rattle.query.specs.Uses.{one_more, with_use, Counted};
 fn number_at(query: &[u16], at: usize) -> usize
     ensures { (result ≡ get_or query.now at 0) × (result < 65536) }
 {
-    if at < query.len() {
-        return model::wide(query[at]);
-    }
-    0
+    query.get(at).map_or(0, |x| usize::from(*x))
 }
 
 // The kind of entry e, or 0 past the end.
@@ -30,11 +29,11 @@ fn kind_at(query: &[u16], e: usize) -> usize
 }
 
 // The four numbers of entry e, which the table has.
-pub fn entry_at(query: &[u16], e: usize) -> model::Entry
+pub fn entry_at(query: &[u16], e: usize) -> Entry
     requires { e < entries_of query.now }
     ensures { (result ≡ entry query.now e) × ((result.left < 65536) × (result.right < 65536)) }
 {
-    model::Entry {
+    Entry {
         kind: number_at(query, 4 * e),
         left: number_at(query, 4 * e + 1),
         right: number_at(query, 4 * e + 2),
@@ -42,48 +41,93 @@ pub fn entry_at(query: &[u16], e: usize) -> model::Entry
     }
 }
 
-// What a kind is, and what its operands are, by the table of kinds in `model`.
+// What the kind of a number is, and what its operands are, by the table of kinds in `model`; none where there is no such kind.
 
 // Its entries are paths, else node expressions.
+#[tactic(auto, unfolding(model::specs::Kinds::is_path))]
 fn is_path(k: usize) -> bool
     ensures { result ≡ is_path k }
 {
-    (k < 8) | (k == 13)
+    matches!(
+        Kind::from_number(k),
+        Some(
+            Kind::Step
+                | Kind::Compose
+                | Kind::Union
+                | Kind::Intersect
+                | Kind::Except
+                | Kind::Filter
+                | Kind::Variable
+                | Kind::Root
+                | Kind::Star
+        )
+    )
 }
 
 // The left operand is a path.
+#[tactic(auto, unfolding(model::specs::Kinds::left_path))]
 fn left_path(k: usize) -> bool
     ensures { result ≡ left_path k }
 {
-    ((0 < k) & (k < 6)) | ((k == 7) | ((k == 8) | ((k == 13) | (k == 14))))
+    matches!(
+        Kind::from_number(k),
+        Some(
+            Kind::Compose
+                | Kind::Union
+                | Kind::Intersect
+                | Kind::Except
+                | Kind::Filter
+                | Kind::Root
+                | Kind::Exists
+                | Kind::Star
+                | Kind::Same
+        )
+    )
 }
 
 // The left operand is a node expression.
+#[tactic(auto, unfolding(model::specs::Kinds::left_expr))]
 fn left_expr(k: usize) -> bool
     ensures { result ≡ left_expr k }
 {
-    (8 < k) & (k < 12)
+    matches!(Kind::from_number(k), Some(Kind::Not | Kind::And | Kind::Or))
 }
 
 // The right operand is a path.
+#[tactic(auto, unfolding(model::specs::Kinds::right_path))]
 fn right_path(k: usize) -> bool
     ensures { result ≡ right_path k }
 {
-    ((0 < k) & (k < 5)) | (k == 14)
+    matches!(
+        Kind::from_number(k),
+        Some(Kind::Compose | Kind::Union | Kind::Intersect | Kind::Except | Kind::Same)
+    )
 }
 
 // The right operand is a node expression.
+#[tactic(auto, unfolding(model::specs::Kinds::right_expr))]
 fn right_expr(k: usize) -> bool
     ensures { result ≡ right_expr k }
 {
-    (k == 5) | ((k == 10) | (k == 11))
+    matches!(
+        Kind::from_number(k),
+        Some(Kind::Filter | Kind::And | Kind::Or)
+    )
+}
+
+// It is a step.
+fn is_step(k: usize) -> bool
+    ensures { result ≡ eqb k 0 }
+{
+    matches!(Kind::from_number(k), Some(Kind::Step))
 }
 
 // The left field is the number of a variable.
+#[tactic(auto, unfolding(model::specs::Kinds::names_variable))]
 pub fn names_variable(k: usize) -> bool
     ensures { result ≡ names_variable k }
 {
-    (k == 6) | (k == 12)
+    matches!(Kind::from_number(k), Some(Kind::Variable | Kind::Is))
 }
 
 // The kind has a left operand.
@@ -117,24 +161,25 @@ fn is_bad_variable_count(least: usize, columns: usize) -> bool
 }
 
 // 10: the kind is unknown.
-fn is_bad_kind(f: model::Entry) -> bool
+fn is_bad_kind(f: Entry) -> bool
     ensures { result ≡ bad_kind f }
 {
-    14 < f.kind
+    Kind::from_number(f.kind).is_none()
 }
 
 // 11: an axis or a variable is out of range, or an unnamed field is not 0.
-fn is_bad_field(columns: usize, f: model::Entry) -> bool
+fn is_bad_field(columns: usize, f: Entry) -> bool
     ensures { result ≡ bad_field columns f }
 {
     let k = f.kind;
-    ((k == 0) & (12 < f.left))
+    let step = is_step(k);
+    (step & (12 < f.left))
         | ((names_variable(k) & !(f.left < columns))
-            | ((!has_right(k) & (f.right != 0)) | ((k != 0) & (f.tag != 0))))
+            | ((!has_right(k) & (f.right != 0)) | (!step & (f.tag != 0))))
 }
 
 // 12: an operand of entry e does not come before it.
-fn is_bad_operand(e: usize, f: model::Entry) -> bool
+fn is_bad_operand(e: usize, f: Entry) -> bool
     ensures { result ≡ bad_operand e f }
 {
     let k = f.kind;
@@ -164,170 +209,152 @@ fn is_bad_last(query: &[u16], last: usize) -> bool
 fn one_more(kept: u8) -> u8
     ensures { result ≡ one_more kept }
 {
-    if kept == 0 {
-        return 1;
-    }
-    2
+    if kept == 0 { 1 } else { 2 }
 }
 
-// The counts with one use more of entry i, where it is used. Copying the 64 bytes is a constant cost.
-fn with_use(counts: [u8; 64], used: bool, i: usize) -> [u8; 64]
-    ensures { result ≡ with_use counts used i }
+// Counts one use more of entry i, where it is used.
+#[tactic(auto, unfolding(crate::specs::Uses::with_use))]
+fn count_use(counts: &mut [u8; 64], used: bool, i: usize)
+    ensures { counts.new ≡ with_use counts.old used i }
 {
-    if !used {
-        return counts;
+    if used && i < 64 {
+        counts[i] = one_more(counts[i]);
     }
-    if 64 <= i {
-        return counts;
-    }
-    let more = one_more(counts[i]);
-    let mut r = counts;
-    r[i] = more;
-    r
 }
 
 // For each of the first 64 entries, how often it is an operand: 0 never, 1 once, 2 more often. Linear in the entries.
 fn count_uses(query: &[u16]) -> [u8; 64]
     ensures { Counted query.now (entries_of query.now) result }
 {
-    let n = query.len() / 4;
     let mut counts = [0u8; 64];
-    let mut e = 0;
-    while e < n {
+    for e in 0..query.len() / 4 {
         let f = entry_at(query, e);
-        let k = f.kind;
-        let l = has_left(k);
-        let r = has_right(k);
-        let a = with_use(counts, l, f.left);
-        let b = with_use(a, r, f.right);
-        counts = b;
-        e += 1;
+        count_use(&mut counts, has_left(f.kind), f.left);
+        count_use(&mut counts, has_right(f.kind), f.right);
     }
     counts
 }
 
 // Entry i is an operand never or more than once.
-fn is_misused(query: &[u16], counts: [u8; 64], i: usize) -> bool
-    requires { Counted query.now (entries_of query.now) counts × (i < 64) }
+fn is_misused(query: &[u16], counts: &[u8; 64], i: usize) -> bool
+    requires { Counted query.now (entries_of query.now) counts.now × (i < 64) }
     ensures { result ≡ misused query.now i }
 {
-    let kept = counts[i];
-    kept != 1
+    counts[i] != 1
 }
 
-// The lowest of the first n entries that is an operand never or more than once, or n.
-fn lowest_misused(query: &[u16], n: usize) -> usize
-    requires { n ≤ 64 }
-    ensures { result ≡ lowest n (misused query.now) }
+// The checks 10 to 15, each over all entries. A place is the number of an entry, and check 8 lets at most 64 entries through, so that
+// every place fits 16 bits.
+
+// 10.
+fn check_kinds(query: &[u16]) -> Result<(), Refusal>
+    requires { entries_of query.now ≤ 64 }
+    ensures { told result ≡ verdict (refuse_at 10 (entries_of query.now) (bad_entry query.now 0 10) ∷ []) }
 {
-    let counts = count_uses(query);
-    let mut e = 0;
-    while e < n {
-        if is_misused(query, counts, e) {
-            return e;
-        }
-        e += 1;
+    match lowest(query.len() / 4, |e| is_bad_kind(entry_at(query, e))) {
+        Some(e) => Err(Refusal::UnknownKind(e as u16)),
+        None => Ok(()),
     }
-    n
 }
 
-// The checks 10 to 13, each by its number over all entries.
+// 11.
+fn check_fields(query: &[u16], columns: usize) -> Result<(), Refusal>
+    requires { entries_of query.now ≤ 64 }
+    ensures { told result ≡ verdict (refuse_at 11 (entries_of query.now) (bad_entry query.now columns 11) ∷ []) }
+{
+    match lowest(
+        query.len() / 4,
+        |e| is_bad_field(columns, entry_at(query, e)),
+    ) {
+        Some(e) => Err(Refusal::BadField(e as u16)),
+        None => Ok(()),
+    }
+}
 
-// Entry e fails the check.
-fn is_bad_entry(query: &[u16], columns: usize, check: usize, e: usize) -> bool
-    requires { (e < entries_of query.now) × (10 ≤ check) }
-    ensures { result ≡ bad_entry query.now columns check e }
+// 12.
+fn check_operands(query: &[u16]) -> Result<(), Refusal>
+    requires { entries_of query.now ≤ 64 }
+    ensures { told result ≡ verdict (refuse_at 12 (entries_of query.now) (bad_entry query.now 0 12) ∷ []) }
+{
+    match lowest(query.len() / 4, |e| is_bad_operand(e, entry_at(query, e))) {
+        Some(e) => Err(Refusal::LateOperand(e as u16)),
+        None => Ok(()),
+    }
+}
+
+// An operand of entry e is of the wrong sort.
+fn has_bad_sort(query: &[u16], e: usize) -> bool
+    requires { e < entries_of query.now }
+    ensures { result ≡ bad_entry query.now 0 13 e }
 {
     let f = entry_at(query, e);
-    if check == 10 {
-        return is_bad_kind(f);
-    }
-    if check == 11 {
-        return is_bad_field(columns, f);
-    }
-    if check == 12 {
-        return is_bad_operand(e, f);
-    }
-    let l = kind_at(query, f.left);
-    let r = kind_at(query, f.right);
-    is_bad_sort(f.kind, l, r)
+    is_bad_sort(f.kind, kind_at(query, f.left), kind_at(query, f.right))
 }
 
-// The lowest of the first n entries that fails the check, or n. One turn an entry.
-fn lowest_bad_entry(query: &[u16], columns: usize, check: usize, n: usize) -> usize
-    requires { (n ≤ entries_of query.now) × (10 ≤ check) }
-    ensures { result ≡ lowest n (bad_entry query.now columns check) }
+// 13.
+fn check_sorts(query: &[u16]) -> Result<(), Refusal>
+    requires { entries_of query.now ≤ 64 }
+    ensures { told result ≡ verdict (refuse_at 13 (entries_of query.now) (bad_entry query.now 0 13) ∷ []) }
 {
-    let mut e = 0;
-    while e < n {
-        if is_bad_entry(query, columns, check, e) {
-            return e;
-        }
-        e += 1;
+    match lowest(query.len() / 4, |e| has_bad_sort(query, e)) {
+        Some(e) => Err(Refusal::WrongSort(e as u16)),
+        None => Ok(()),
     }
-    n
 }
 
-// The verdict. A place is the number of an entry, and check 8 lets at most 64 entries through, so that every place fits
-// 16 bits.
-
-// The checks 14 and 15.
-fn check_uses(query: &[u16]) -> model::Reply
+// 14.
+fn check_uses(query: &[u16]) -> Result<(), Refusal>
     requires { (1 ≤ entries_of query.now) × (entries_of query.now ≤ 64) }
-    ensures { result ≡ verdict (use_checks query.now) }
+    ensures { told result ≡ verdict (refuse_at 14 (last_of query.now) (misused query.now) ∷ []) }
+{
+    let counts = count_uses(query);
+    match lowest(query.len() / 4 - 1, |e| is_misused(query, &counts, e)) {
+        Some(e) => Err(Refusal::Misused(e as u16)),
+        None => Ok(()),
+    }
+}
+
+// 15.
+fn check_last(query: &[u16]) -> Result<(), Refusal>
+    requires { (1 ≤ entries_of query.now) × (entries_of query.now ≤ 64) }
+    ensures { told result ≡ verdict (refuse_here 15 (last_of query.now) (bad_last query.now) ∷ []) }
 {
     let last = query.len() / 4 - 1;
-    let e = lowest_misused(query, last);
-    if e < last {
-        return model::reply_at(14, e);
-    }
     if is_bad_last(query, last) {
-        return model::reply_at(15, last);
+        return Err(Refusal::NoPath(last as u16));
     }
-    model::reply_at(0, 0)
+    Ok(())
 }
 
 // The checks 10 to 15.
-fn check_entries(query: &[u16], columns: usize) -> model::Reply
+fn check_entries(query: &[u16], columns: usize) -> Result<(), Refusal>
     requires { (1 ≤ entries_of query.now) × (entries_of query.now ≤ 64) }
-    ensures { result ≡ verdict (entry_checks query.now columns) }
+    ensures { told result ≡ verdict (entry_checks query.now columns) }
 {
-    let n = query.len() / 4;
-    let a = lowest_bad_entry(query, columns, 10, n);
-    if a < n {
-        return model::reply_at(10, a);
-    }
-    let b = lowest_bad_entry(query, columns, 11, n);
-    if b < n {
-        return model::reply_at(11, b);
-    }
-    let c = lowest_bad_entry(query, columns, 12, n);
-    if c < n {
-        return model::reply_at(12, c);
-    }
-    let d = lowest_bad_entry(query, columns, 13, n);
-    if d < n {
-        return model::reply_at(13, d);
-    }
-    check_uses(query)
+    check_kinds(query)?;
+    check_fields(query, columns)?;
+    check_operands(query)?;
+    check_sorts(query)?;
+    check_uses(query)?;
+    check_last(query)
 }
 
 // The verdict on a query table with a number of variables, for a service that takes no fewer variables than least.
-pub fn check_query_for(query: &[u16], least: usize, columns: usize) -> model::Reply
-    ensures { result ≡ verdict (query_checks query.now least columns) }
+pub fn check_query_for(query: &[u16], least: usize, columns: usize) -> Result<(), Refusal>
+    ensures { told result ≡ verdict (query_checks query.now least columns) }
 {
     if is_bad_query_length(query.len()) {
-        return model::reply_at(8, 0);
+        return Err(Refusal::QueryLength);
     }
     if is_bad_variable_count(least, columns) {
-        return model::reply_at(9, 0);
+        return Err(Refusal::VariableCount);
     }
     check_entries(query, columns)
 }
 
 // The verdict on a query table with its number of variables, any up to 3.
-pub fn check_query(query: &[u16], columns: usize) -> model::Reply
-    ensures { result ≡ verdict (query_checks query.now 0 columns) }
+pub fn check_query(query: &[u16], columns: usize) -> Result<(), Refusal>
+    ensures { told result ≡ verdict (query_checks query.now 0 columns) }
 {
     check_query_for(query, 0, columns)
 }

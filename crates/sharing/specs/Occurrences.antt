@@ -1,5 +1,5 @@
 -- In which entries of a query table a variable stands, and from that which entries break the rule.
-use Rattle.std.specs.Prelude.{ℕ, Bool, ◌&&◌, ◌||◌, cond, List, eqb}
+use Rattle.std.specs.Prelude.{ℕ, Bool, ◌&&◌, ◌||◌, cond, List, [], ◌∷◌, eqb}
 use Rattle.model.specs.declared.Entry.{Entry}
 use Rattle.model.specs.Sets.{tab, upto}
 use Rattle.model.specs.QueryTable.{kind, entries_of, path_at, expr_at}
@@ -13,6 +13,10 @@ occurs q v e = cond (is_path (kind q e)) (in_path (path_at q e) v) (in_expr (exp
 -- the entries in which it stands, as bytes
 unfoldable pub occurrences : List ℕ → ℕ → List ℕ
 occurrences q v = tab 64 (upto (entries_of q) (occurs q v))
+
+-- those of each of the three variables
+abbrev pub all_occurrences : List ℕ → List (List ℕ)
+all_occurrences q = occurrences q 0 ∷ occurrences q 1 ∷ occurrences q 2 ∷ []
 
 -- variable v stands in an entry: the entry names it, or it stands in the left operand, a, or the right one, b
 abbrev pub standing : Entry → ℕ → Bool → Bool → Bool

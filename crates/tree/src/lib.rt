@@ -12,7 +12,7 @@ pub fn parent(tree: &[u16], x: usize) -> usize
     requires { x < size_of tree.now }
     ensures { result ≡ (tree_of tree.now).parent x }
 {
-    model::wide(tree[2 * x])
+    usize::from(tree[2 * x])
 }
 
 // The tag of node x.
@@ -32,12 +32,10 @@ pub fn previous_siblings(tree: &[u16]) -> [u16; 512]
     let n = tree.len() / 2;
     let mut links = [65535u16; 512];
     let mut last = [65535u16; 256];
-    let mut y = 1;
-    while y < n {
+    for y in 1..n {
         let p = parent(tree, y);
         links[2 * y] = last[p];
         last[p] = y as u16;
-        y += 1;
     }
     links
 }

@@ -3,6 +3,7 @@ use Prim.Native.Nat.{ℕ, suc, ◌+◌, ◌*◌, ◌/◌, ◌≤◌, ◌<◌}
 use native.Mathlib.Nat.{eq-or-lt_of_le, add-zero}
 use native.Mathlib.Numerals.{add-one}
 use native.Mathlib.Omega.{arith}
+use Rattle.std.proofs.Common.{Ok, Err}
 use mathlib.Core.Path.{◌≡◌, refl, sym, ap, ◌∙◌}
 use mathlib.Core.Logic.{⊎_elim}
 use mathlib.Core.Bool.{Bool, true, not, cond, ◌&&◌, ◌||◌}
@@ -14,16 +15,16 @@ use borrow.Author.Tests.{ltb-false, ne_eqb}
 use Rattle.model.specs.declared.Reply.{Reply}
 use Rattle.model.specs.declared.MadeReply.{MadeReply}
 use Rattle.model.specs.Sets.{bit}
-use Rattle.model.specs.Refusals.{making, verdict}
+use Rattle.model.specs.declared.refusal.Refusal.{Refusal}
+use Rattle.model.specs.Refusals.{making, reply, refused, verdict}
 use Rattle.model.specs.Checks.{tree_checks, room_checks}
 use Rattle.model.specs.Services.{Leaves, leaving}
 use Rattle.model.specs.Parties.{shared_tree, owner, shared_checks, shared_verdict, sees, rank, new_row, rows_of, seen_table}
 use Rattle.model.specs.Accepted.{Ordered}
 use Rattle.model.proofs.Booleans.{Seen, yes!, no!, seen}
-use Rattle.model.proofs.Refusals.{Passes, numbered, accepted, all_pass, leaves_none, leaves_table}
+use Rattle.model.proofs.Refusals.{Passes, numbered, accepted, all_pass, refused_some, leaves_none, leaves_table}
 use Rattle.model.proofs.Parties.{sees_step, shared_numbered, shared_ordered, root_seen, parent_seen, shared_passes, leaves_refused, leaves_seen}
 use Rattle.view.specs.View.{AcceptedTable, Filled, Looked, room_for, seen_tree}
-use Rattle.view.specs.declared.Sight.{Sight}
 use Rattle.view.proofs.Part.{rank_yes, rank_no, rank_most, rows_yes, rows_no, length_rows}
 use Rattle.view.proofs.SeenTree.{seen_passes}
 
@@ -182,65 +183,60 @@ module _ (t : List ℕ) (party : ℕ) (ok : AcceptedTable t) where
 
 -- A look.
 
-module _ (t : List ℕ) (party : ℕ) (v : Reply) (p : v ≡ shared_verdict t party) where
-  pub look_refused : (table : List ℕ) → (v.number ≡ 0 → ⊥) → Looked t party (record { reply = v; count = 0 }) table
-  look_refused table z =
-      record {
-        reply = p;
-        within = omega arith;
-        front = λ h. absurd (z h);
-        long = λ h. absurd (z h);
-        accepted = λ h. absurd (z h);
-      }
+module _ (t : List ℕ) (party : ℕ) where
+  pub look_refused : (table : List ℕ) (e : Refusal) → refused e ≡ shared_verdict t party → Looked t party (Err e) table
+  look_refused table e p = record { reply = p; seen = tt }
 
-  module _ (z : v.number ≡ 0) where
+  module _ (p : reply 0 0 ≡ shared_verdict t party) where
     ok : Passes (shared_checks t)
-    ok = shared_passes t party v p z
+    ok = shared_passes t party (reply 0 0) p refl
 
     pub look_accepted : AcceptedTable t
     look_accepted = all_pass (shared_checks t) ok
 
-    pub look_done : (table : List ℕ) (nodes : ℕ) → Filled t party nodes table → Looked t party (record { reply = v; count = 2 * nodes }) table
+    pub look_done : (table : List ℕ) (nodes : ℕ) → Filled t party nodes table → Looked t party (Ok (2 * nodes)) table
     look_done table nodes f =
         record {
           reply = p;
-          within = omega (arith, f.size, f.few);
-          front = λ _. f.front;
-          long = λ _. f.long;
-          accepted = λ _. ap (λ (u : List ℕ). (verdict (tree_checks u)).number) f.front ∙ all_pass (tree_checks (seen_table t party)) (seen_passes t party ok);
+          seen = record {
+            within = omega (arith, f.size, f.few);
+            front = f.front;
+            long = f.long;
+            accepted = ap (λ (u : List ℕ). (verdict (tree_checks u)).number) f.front ∙ all_pass (tree_checks (seen_table t party)) (seen_passes t party ok);
+          };
         }
 
 -- The service.
 
-room_enough : (room needed : ℕ) (w : Reply) → w ≡ verdict (room_checks room needed) → w.number ≡ 0 → needed ≤ room
+room_enough : (room needed : ℕ) → reply 0 0 ≡ verdict (room_checks room needed) → needed ≤ room
 unfolding room_checks Passes numbered
-room_enough room needed w p y = ltb-false room needed (accepted (room_checks room needed) refl (ap (λ (r : Reply). r.number) (sym p) ∙ y)).0
+room_enough room needed p = ltb-false room needed (accepted (room_checks room needed) refl (ap (λ (r : Reply). r.number) (sym p))).0
 
-module _ (t : List ℕ) (party : ℕ) (own table : List ℕ) (s : Sight) (h : Looked t party s own) where
+module _ (t : List ℕ) (party : ℕ) (own table : List ℕ) where
   -- table or party are refused
-  pub seen_refused : (r : MadeReply) → r ≡ making s.reply 0 → (s.reply.number ≡ 0 → ⊥) → Leaves (seen_tree t party table) r table
+  pub seen_refused : (e : Refusal) → Looked t party (Err e) own → Leaves (seen_tree t party table) (making (refused e) 0) table
   unfolding seen_tree
-  seen_refused r e z = leaves_refused t party table (λ v. making v 0) (λ u. leaving (room_for u table) u table) s.reply h.reply r e z
+  seen_refused e h = leaves_refused t party table (λ v. making v 0) (λ u. leaving (room_for u table) u table) (refused e) h.reply (making (refused e) 0) refl (refused_some e)
 
-  module _ (z : s.reply.number ≡ 0) (w : Reply) (p : w ≡ verdict (room_checks (length table) s.count)) where
-    due : w ≡ room_for (seen_table t party) table
-    due = p ∙ ap (λ (k : ℕ). verdict (room_checks (length table) k)) (h.long z)
+  module _ (count : ℕ) (h : Looked t party (Ok count) own) where
+    due : (w : Reply) → w ≡ verdict (room_checks (length table) count) → w ≡ room_for (seen_table t party) table
+    due w p = p ∙ ap (λ (k : ℕ). verdict (room_checks (length table) k)) h.seen.long
 
     over : (r : MadeReply) (after : List ℕ)
         → Leaves (leaving (room_for (seen_table t party) table) (seen_table t party) table) r after
         → Leaves (seen_tree t party table) r after
     unfolding seen_tree
-    over r after l = leaves_seen t party table (λ v. making v 0) (λ u. leaving (room_for u table) u table) s.reply h.reply (seen_table t party) after r l refl z
+    over r after l = leaves_seen t party table (λ v. making v 0) (λ u. leaving (room_for u table) u table) (reply 0 0) h.reply (seen_table t party) after r l refl refl
 
     -- the buffer has too little room
-    pub seen_short : (r : MadeReply) → r ≡ making w 0 → (w.number ≡ 0 → ⊥) → Leaves (seen_tree t party table) r table
-    seen_short r e y = over r table (leaves_none r w (room_for (seen_table t party) table) due (seen_table t party) table e y)
+    pub seen_short : (e : Refusal) → refused e ≡ verdict (room_checks (length table) count) → Leaves (seen_tree t party table) (making (refused e) 0) table
+    seen_short e p = over (making (refused e) 0) table (leaves_none (making (refused e) 0) (refused e) (room_for (seen_table t party) table) (due (refused e) p) (seen_table t party) table refl (refused_some e))
 
-    module _ (y : w.number ≡ 0) where
-      pub seen_room : s.count ≤ length table
-      seen_room = room_enough (length table) s.count w p y
+    module _ (p : reply 0 0 ≡ verdict (room_checks (length table) count)) where
+      pub seen_room : count ≤ length table
+      seen_room = room_enough (length table) count p
 
-      pub seen_made : (r : MadeReply) (after : List ℕ) → r ≡ making w s.count → after ≡ take s.count own ++ drop s.count table → Leaves (seen_tree t party table) r after
-      seen_made r after e f =
-          over r after
-          (leaves_table r w (room_for (seen_table t party) table) due (seen_table t party) table s.count after e (f ∙ rw (h.front z)) y (sym (h.long z)))
+      pub seen_made : (after : List ℕ) → after ≡ take count own ++ drop count table → Leaves (seen_tree t party table) (making (reply 0 0) count) after
+      seen_made after f =
+          over (making (reply 0 0) count) after
+          (leaves_table (making (reply 0 0) count) (reply 0 0) (room_for (seen_table t party) table) (due (reply 0 0) p) (seen_table t party) table count after refl (f ∙ rw h.seen.front) refl (sym h.seen.long))

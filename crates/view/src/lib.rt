@@ -2,37 +2,18 @@
 // and a party. The check and the making of it take time linear in the table's length.
 #![tactic(auto)]
 
-ghost use Rattle.std.specs.Prelude.{◌≡◌, cond, ◌||◌, ◌≤◌, length, eqb};
-ghost use Rattle.model.specs.Sets.{bit};
+ghost use Rattle.std.specs.Prelude.{◌≡◌, ◌||◌, ◌≤◌, length, eqb};
+ghost use Rattle.model.specs.Refusals.{told_making};
 ghost use Rattle.model.specs.Services.{Leaves};
 ghost use Rattle.view.specs.View.{AcceptedTable, Filled, Looked, seen_tree};
 
-// What a look at a shared table gives: the verdict on table and party, and how many numbers the tree has that the party sees.
-#[derive(Drop)]
-pub struct Sight {
-    pub reply: model::Reply,
-    pub count: usize,
-}
+use model::Refusal;
 
 // Whether an owner lets the party see.
 fn is_open(owner: u16, party: u16) -> bool
     ensures { result ≡ (eqb owner 0 || eqb owner party) }
 {
     (owner == 0) | (owner == party)
-}
-
-// a if b, else c.
-fn choose(b: bool, a: u16, c: u16) -> u16
-    ensures { result ≡ cond b a c }
-{
-    if b { a } else { c }
-}
-
-// 1 if b, else 0.
-fn one_if(b: bool) -> usize
-    ensures { (result ≡ bit b) × (result ≤ 1) }
-{
-    if b { 1 } else { 0 }
 }
 
 // The seen nodes, over the front of a table of 512 numbers, and how many they are. One turn a node, without a branch: each node is
@@ -47,51 +28,36 @@ fn fill(tree: &[u16], party: u16, table: &mut [u16]) -> usize
     table[0] = 65535;
     table[1] = ownership::tag(tree, 0);
     let mut nodes = 1;
-    let mut x = 1;
-    while x < n {
+    for x in 1..n {
         let p = ownership::parent(tree, x);
         let up = numbers[p];
         let seen = is_open(ownership::owner(tree, x), party) & (up != 65535);
         table[2 * nodes] = up;
         table[2 * nodes + 1] = ownership::tag(tree, x);
-        numbers[x] = choose(seen, nodes as u16, 65535);
-        nodes += one_if(seen);
-        x += 1;
+        numbers[x] = if seen { nodes as u16 } else { 65535 };
+        nodes += usize::from(seen);
     }
     nodes
 }
 
-// The verdict on a shared table and a party; where it is 0, the tree that the party sees stands at the front of a table of 512 numbers.
-pub fn look(tree: &[u16], party: u16, table: &mut [u16]) -> Sight
+// A look at a shared table, as a party: where table and party are accepted, the tree that the party sees stands at the front of a table of
+// 512 numbers, and is so many numbers long.
+pub fn look(tree: &[u16], party: u16, table: &mut [u16]) -> Result<usize, Refusal>
     requires { length table.old ≡ 512 }
     ensures { Looked tree.now party result table.new }
 {
-    let v = ownership::check(tree, party);
-    if v.number != 0 {
-        return Sight { reply: v, count: 0 };
-    }
+    ownership::check(tree, party)?;
     let nodes = fill(tree, party, table);
-    Sight {
-        reply: v,
-        count: 2 * nodes,
-    }
+    Ok(2 * nodes)
 }
 
-// The service: the tree that a party sees, at the front of the buffer.
-pub fn seen(tree: &[u16], party: u16, table: &mut [u16]) -> model::MadeReply
-    ensures { Leaves (seen_tree tree.now party table.old) result table.new }
+// The service: the tree that a party sees, at the front of the buffer, and how many numbers it has.
+pub fn seen(tree: &[u16], party: u16, table: &mut [u16]) -> Result<usize, Refusal>
+    ensures { Leaves (seen_tree tree.now party table.old) (told_making result) table.new }
 {
     let mut own = [0u16; 512];
-    let sight = look(tree, party, &mut own);
-    let v = sight.reply;
-    if v.number != 0 {
-        return model::made_reply(v, 0);
-    }
-    let count = sight.count;
-    let w = checks::check_room(table.len(), count);
-    if w.number != 0 {
-        return model::made_reply(w, 0);
-    }
+    let count = look(tree, party, &mut own)?;
+    checks::check_room(table.len(), count)?;
     model::copy(&own, count, table);
-    model::made_reply(w, count)
+    Ok(count)
 }

@@ -1,20 +1,21 @@
-use Rattle.model.specs.Checks.{image_checks}
-use Rattle.model.proofs.Refusals.{stop_all, pass_all}
-use Rattle.checks.proofs.Verdicts.{tables_fit, tables_numbered, set_numbered}
+use mathlib.Core.Path.{refl}
 use borrow.Author.Rules.{rules}
+use Rattle.model.specs.Checks.{image_checks}
+use Rattle.model.proofs.Refusals.{stop_err, pass_ok}
+use Rattle.checks.proofs.Verdicts.{tables_fit, tables_numbered, set_numbered}
 use Rattle.checks.proofs.check_image.Goals as goal
 
-pub returns-then-v-ne0 : goal.returns-then-v-ne0
+pub returns-in_err-check_tables : goal.returns-in_err-check_tables
 unfolding image_checks
-returns-then-v-ne0 c = search (stop_all, pass_all, rules)
+returns-in_err-check_tables c = search (stop_err, rules)
 
-pub check_set-s-requires : goal.check_set-s-requires
-check_set-s-requires c = search (tables_fit, rules)
+pub check_set-requires : goal.check_set-requires
+check_set-requires c = tables_fit _ _ _ _ _ c.in_ok-check_tables.ensures refl
 
-pub returns-then-s-ne0 : goal.returns-then-s-ne0
+pub returns-in_err-check_set : goal.returns-in_err-check_set
 unfolding image_checks
-returns-then-s-ne0 c = search (stop_all, pass_all, tables_numbered, rules)
+returns-in_err-check_set c = search (stop_err, pass_ok, tables_numbered, rules)
 
 pub returns : goal.returns
 unfolding image_checks
-returns c = search (stop_all, pass_all, tables_numbered, set_numbered, rules)
+returns c = search (pass_ok, tables_numbered, set_numbered, rules)

@@ -1,5 +1,5 @@
-use Rattle.checks.proofs.Verdicts.{tree_first}
 use borrow.Author.Rules.{rules}
+use Rattle.checks.proofs.Verdicts.{tree_first}
 use Rattle.checks.proofs.check_listing.Goals as goal
 
 pub returns : goal.returns

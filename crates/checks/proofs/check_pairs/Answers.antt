@@ -1,16 +1,17 @@
-use Rattle.model.specs.Checks.{pairs_checks}
-use Rattle.model.proofs.Refusals.{stop_all, pass_all}
-use Rattle.checks.proofs.Verdicts.{tables_fit, tables_numbered, room_of}
+use mathlib.Core.Path.{refl}
 use borrow.Author.Rules.{rules}
+use Rattle.model.specs.Checks.{pairs_checks}
+use Rattle.model.proofs.Refusals.{stop_err, pass_ok}
+use Rattle.checks.proofs.Verdicts.{tables_fit, tables_numbered, room_of}
 use Rattle.checks.proofs.check_pairs.Goals as goal
 
-pub returns-then-v-ne0 : goal.returns-then-v-ne0
+pub returns-in_err-check_tables : goal.returns-in_err-check_tables
 unfolding pairs_checks
-returns-then-v-ne0 c = search (stop_all, pass_all, rules)
+returns-in_err-check_tables c = search (stop_err, rules)
 
 pub square-requires : goal.square-requires
-square-requires c = search (tables_fit, rules)
+square-requires c = tables_fit _ _ _ _ _ c.in_ok-check_tables.ensures refl
 
 pub returns : goal.returns
 unfolding pairs_checks
-returns c = search (room_of, stop_all, pass_all, tables_numbered, rules)
+returns c = search (room_of, pass_ok, tables_numbered, rules)

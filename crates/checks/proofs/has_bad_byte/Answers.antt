@@ -1,16 +1,13 @@
-use native.Mathlib.Omega.{arith}
-use mathlib.Core.Path.{refl}
 use borrow.Author.Rules.{rules}
+use mathlib.Core.Bool.{or_comm}
+use mathlib.Core.Path.{refl}
 use Rattle.model.specs.Sets.{any}
-use Rattle.model.proofs.Exists.{any_seen, any_whole}
+use Rattle.model.proofs.Exists.{any_seen}
 use Rattle.checks.proofs.has_bad_byte.Goals as goal
 
-pub loop-i-init : goal.loop-i-init
+pub loop-b-init : goal.loop-b-init
 unfolding any
-loop-i-init c = (omega arith, refl)
+loop-b-init c = refl
 
-pub loop-i-preserved : goal.loop-i-preserved
-loop-i-preserved c = search (any_seen, rules)
-
-pub returns : goal.returns
-returns c = search (any_whole, rules)
+pub loop-b-preserved : goal.loop-b-preserved
+loop-b-preserved c = rw or_comm (search (any_seen, rules))

@@ -1,10 +1,10 @@
-use Rattle.model.proofs.Parties.{shared_numbered}
-use Rattle.model.proofs.Refusals.{stop_all, pass_all}
 use borrow.Author.Rules.{rules}
+use Rattle.model.proofs.Parties.{shared_numbered}
+use Rattle.model.proofs.Refusals.{stop_err, pass_ok}
 use Rattle.ownership.proofs.check.Goals as goal
 
-pub returns-then-v-ne0 : goal.returns-then-v-ne0
-returns-then-v-ne0 c = search (stop_all, rules)
+pub returns-in_err-check_table : goal.returns-in_err-check_table
+returns-in_err-check_table c = search (stop_err, rules)
 
 pub returns : goal.returns
-returns c = search (pass_all, shared_numbered, rules)
+returns c = search (pass_ok, shared_numbered, rules)

@@ -1,18 +1,28 @@
 use borrow.Author.Rules.{rules}
-use Rattle.model.proofs.Refusals.{stop_at, pass_at}
+use Rattle.model.specs.Checks.{bad_entry}
+use Rattle.model.proofs.Searches.{stop_one, pass_one}
 use Rattle.query.proofs.check_entries.Goals as goal
 
-pub returns-then-a-n : goal.returns-then-a-n
-returns-then-a-n c = search (stop_at, pass_at, rules) depth 8 fits 20000
+pub returns-in_err-check_kinds : goal.returns-in_err-check_kinds
+unfolding bad_entry
+returns-in_err-check_kinds c = search (stop_one, pass_one, rules) depth 8 fits 20000
 
-pub returns-then-b-n : goal.returns-then-b-n
-returns-then-b-n c = search (stop_at, pass_at, rules) depth 8 fits 20000
+pub returns-in_err-check_fields : goal.returns-in_err-check_fields
+unfolding bad_entry
+returns-in_err-check_fields c = search (stop_one, pass_one, rules) depth 8 fits 20000
 
-pub returns-then-c-n : goal.returns-then-c-n
-returns-then-c-n c = search (stop_at, pass_at, rules) depth 8 fits 20000
+pub returns-in_err-check_operands : goal.returns-in_err-check_operands
+unfolding bad_entry
+returns-in_err-check_operands c = search (stop_one, pass_one, rules) depth 8 fits 20000
 
-pub returns-then-d-n : goal.returns-then-d-n
-returns-then-d-n c = search (stop_at, pass_at, rules) depth 8 fits 20000
+pub returns-in_err-check_sorts : goal.returns-in_err-check_sorts
+unfolding bad_entry
+returns-in_err-check_sorts c = search (stop_one, pass_one, rules) depth 8 fits 20000
+
+pub returns-in_err-check_uses : goal.returns-in_err-check_uses
+unfolding bad_entry
+returns-in_err-check_uses c = search (stop_one, pass_one, rules) depth 8 fits 20000
 
 pub returns : goal.returns
-returns c = search (stop_at, pass_at, rules) depth 8 fits 20000
+unfolding bad_entry
+returns c = search (stop_one, pass_one, rules) depth 8 fits 20000

@@ -1,5 +1,6 @@
 use borrow.Author.Rules.{rules}
 use native.Mathlib.Omega.{arith}
+use Prim.Native.Nat.{◌<◌}
 use lib.ListN.{get_or}
 use mathlib.Core.Path.{refl}
 use Rattle.view.proofs.Filling.{some_node, place_within, nodes_most, fill_start, parent_small, node_small, turn_seen, turn_more, fill_end}
@@ -44,8 +45,8 @@ offset_bounds-table-nodes-in-loop-x c = omega (arith, node_small _ _ c.requires.
 pub bounds-table-nodes-in-loop-x : goal.bounds-table-nodes-in-loop-x
 bounds-table-nodes-in-loop-x c = place_within c.loop-x.table c.loop-x.nodes (get_or c.loop-x.numbers c.parent-p.result 0) c.loop-x.invariant.long (node_small _ _ c.requires.0 _ _ _ _ c.loop-x.invariant (search rules))
 
-pub overflow_cast-nodes : goal.overflow_cast-nodes
-overflow_cast-nodes c = omega (arith, node_small _ _ c.requires.0 _ _ _ _ c.loop-x.invariant (search rules))
+pub overflow_cast-numbers : goal.overflow_cast-numbers
+overflow_cast-numbers c = omega (arith, node_small _ _ c.requires.0 _ _ _ _ c.loop-x.invariant (search rules), nodes_most _ c.args.party c.requires.0)
 
 pub offset_bounds-numbers-x : goal.offset_bounds-numbers-x
 offset_bounds-numbers-x c = omega (arith, parent_small _ _ c.requires.0 _ _ _ _ c.loop-x.invariant (search rules) _ c.parent-p.ensures)
@@ -54,10 +55,10 @@ pub bounds-numbers-x : goal.bounds-numbers-x
 bounds-numbers-x c = omega (arith, nodes_most _ c.args.party c.requires.0)
 
 pub overflow_add-nodes : goal.overflow_add-nodes
-overflow_add-nodes c = omega (arith, node_small _ _ c.requires.0 _ _ _ _ c.loop-x.invariant (search rules), c.one_if-nodes.ensures.1)
+overflow_add-nodes c = let few : c.loop-x.nodes < 256 = node_small _ _ c.requires.0 _ _ _ _ c.loop-x.invariant (search rules) in search rules
 
 pub loop-x-preserved : goal.loop-x-preserved
-loop-x-preserved c = turn_more _ _ c.requires.0 _ _ _ _ c.loop-x.invariant (search rules) _ _ _ _ c.parent-p.ensures refl c.owner.ensures c.tag-in-loop-x.ensures _ _ _ (turn_seen _ _ c.requires.0 _ _ _ _ c.loop-x.invariant (search rules) _ _ _ _ c.parent-p.ensures refl c.owner.ensures c.tag-in-loop-x.ensures _ c.is_open.ensures) c.choose.ensures c.one_if-nodes.ensures.0
+loop-x-preserved c = turn_more _ _ c.requires.0 _ _ _ _ c.loop-x.invariant (search rules) _ _ _ _ c.parent-p.ensures refl c.owner.ensures c.tag-in-loop-x.ensures _ _ _ (turn_seen _ _ c.requires.0 _ _ _ _ c.loop-x.invariant (search rules) _ _ _ _ c.parent-p.ensures refl c.owner.ensures c.tag-in-loop-x.ensures _ c.is_open.ensures) (search rules) (search rules)
 
 pub returns : goal.returns
 returns c = fill_end _ _ c.requires.0 _ _ _ _ c.loop-x.invariant (search rules)

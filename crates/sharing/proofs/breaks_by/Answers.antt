@@ -1,4 +1,0 @@
-use Rattle.sharing.proofs.breaks_by.Goals as goal
-
-pub returns : goal.returns
-returns c = cc
