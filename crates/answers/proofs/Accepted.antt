@@ -7,12 +7,15 @@ use mathlib.Core.List.{List, [], ◌∷◌, ◌++◌}
 use lib.Dec.{ltb}
 use lib.ListN.{length, get_or}
 use lib.Seq.{length-take-le}
-use borrow.Author.Tests.{ltb-true, not-false, eq-eqb, ne_eqb}
+use borrow.Author.Tests.{ltb-true, not-false, ne_eqb}
 use Rattle.model.specs.declared.Cursor.{Cursor}
 use Rattle.model.specs.declared.Reply.{Reply}
 use Rattle.model.specs.Tree.{tree_of, size_of}
 use Rattle.model.specs.QueryTable.{entries_of}
-use Rattle.model.specs.Refusals.{verdict}
+use Rattle.std.specs.Prelude.{Ok, Err}
+use Rattle.model.specs.declared.Page.{Page}
+use Rattle.model.specs.declared.refusal.Refusal.{Refusal}
+use Rattle.model.specs.Refusals.{verdict, reply, refused, told_page}
 use Rattle.model.specs.Checks.{bad_node, tree_checks, query_checks, cursor_checks, room_checks, page_checks, quick_checks}
 use Rattle.model.specs.Accepted.{Ordered, Below, Shaped}
 use Rattle.model.specs.Answers.{answers}
@@ -24,9 +27,9 @@ use Rattle.model.proofs.Accepted.{tree_ordered, tree_numbered, query_numbered, c
 use Rattle.aside.proofs.Accepted.{accepted_five}
 use Rattle.checks.proofs.Verdicts.{zero_of, cursor_numbered}
 use Rattle.tree.specs.Links.{PreviousSiblings}
-use Rattle.answers.specs.declared.Paged.{Paged}
 use Rattle.model.specs.Services.{page_outcome, PageLeaves}
-use Rattle.answers.specs.Search.{Listed, refused_page}
+use Rattle.model.proofs.Refusals.{refused_some}
+use Rattle.answers.specs.Search.{Listed, page_of}
 
 -- An accepted call.
 
@@ -77,12 +80,12 @@ quick_few t q columns c room v p z =
 
 -- What a call leaves.
 
-module _ (t q : List ℕ) (columns : ℕ) (c : Cursor) (buffer : List ℕ) (v : Reply) (p : v ≡ verdict (page_checks t q columns c (length buffer))) where
-  pub page_refused : (r : Paged) → r ≡ refused_page v c → (v.number ≡ 0 → ⊥) → PageLeaves (page_outcome t q columns c buffer) r.reply r.cursor buffer
+module _ (t q : List ℕ) (columns : ℕ) (c : Cursor) (buffer : List ℕ) where
+  pub page_refused : (e : Refusal) → refused e ≡ verdict (page_checks t q columns c (length buffer)) → PageLeaves (page_outcome t q columns c buffer) (told_page (Err e)) c buffer
   unfolding page_outcome
-  page_refused r e z = rw (e, ← p, ne_eqb v.number 0 z) (refl, refl, refl)
+  page_refused e p = rw (← p, ne_eqb (refused e).number 0 (refused_some e)) (refl, refl, refl)
 
-  pub page_accepted : v.number ≡ 0 → (r : Paged) (rows : List ℕ) → PageLeaves (paged columns (answers t q columns) c buffer) r.reply r.cursor rows
-      → PageLeaves (page_outcome t q columns c buffer) r.reply r.cursor rows
+  pub page_accepted : reply 0 0 ≡ verdict (page_checks t q columns c (length buffer)) → (r : Page) (rows : List ℕ) → PageLeaves (paged columns (answers t q columns) c buffer) (page_of r.count r.more r.cursor).reply r.cursor rows
+      → PageLeaves (page_outcome t q columns c buffer) (told_page (Ok r)) r.cursor rows
   unfolding page_outcome
-  page_accepted z r rows h = rw (← p, eq-eqb v.number 0 z) h
+  page_accepted p r rows h = rw (← p) h

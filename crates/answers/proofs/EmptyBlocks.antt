@@ -1,6 +1,6 @@
 -- Laws of blocks of rows: those that begin with the same numbers. Behind a block in which no row is an answer, the answers are those after
 -- its first row.
-use Prim.Native.Nat.{ℕ, zero, suc, ◌+◌, ◌-◌, ◌<◌, ◌≤◌}
+use Prim.Native.Nat.{ℕ, zero, suc, ◌+◌, ◌-◌, ◌<◌, ◌≤◌, min}
 use native.Mathlib.Decide.{dec_lt}
 use native.Mathlib.Omega.{arith}
 use mathlib.Core.Path.{◌≡◌, refl, sym, ap, ap₂, ◌∙◌, subst}
@@ -107,12 +107,12 @@ module _ {t prev q : List ℕ} {k low : ℕ} {row : List ℕ} (ok : Listed t pre
       same x e s = sym (take_all k x (omega arith)) ∙ subst (λ (j : ℕ). take j x ≡ take j row) is s
 
   -- the query has no pair with the variables from i on standing for any node, and no variable at a negative place is among these
-  pub block_empty : (i : ℕ) → ZerosFrom k low row i → i < k → low ≡ bound_at q (last_of q) → (b : Bool) → b ≡ satisfied_open t q k row i → not b ≡ true → EmptyBlock t q k i row
+  pub block_empty : (i : ℕ) → ZerosFrom k low row i → i < k → low ≡ bound_at q (last_of q) → (b : Bool) → b ≡ satisfied_open t q k row i → b ≡ false → EmptyBlock t q k i row
   unfolding satisfied_open satisfied related
   block_empty i z l e b p f = record {
     heads = heads_from z;
     none = λ x n m h s.
-        no_yes (sym p ∙ not-true b f)
+        no_yes (sym p ∙ f)
         (filled (tree_of t) ok.searchable.linked.tree.sound (unfilled i k) (assigned (take k row)) (assigned x)
         (row_fills ok row three i x n m (λ j g. sym (get_or-take i x j 0 g) ∙ ap (λ (r : List ℕ). get_or r j 0) s ∙ get_or-take i row j 0 g))
         (path_at q (last_of q)) (λ j g. rw (lt-ltb j i (low_of j g))) h);
@@ -120,23 +120,3 @@ module _ {t prev q : List ℕ} {k low : ℕ} {row : List ℕ} (ok : Listed t pre
     where
       low_of : (j : ℕ) → j < bound_in (path_term (path_at q (last_of q))) → j < i
       low_of j g = omega (arith, z.from l, ap bound_in (term_path q (last_of q) ok.searchable.path.sort))
-
--- The loop that looks for zeros, from the last number to the first.
-
-pub zeros_start : (k low : ℕ) (row : List ℕ) → ZerosFrom k low row k
-zeros_start k low row = record { within = omega arith; from = λ l. absurd (omega arith); zeros = λ j l g. absurd (omega arith) }
-
-pub zeros_more : {k low : ℕ} {row : List ℕ} {i : ℕ} → ZerosFrom k low row i → low < i → (v : ℕ) → v ≡ get_or row (i - 1) 0 → v ≡ 0 → ZerosFrom k low row (i - 1)
-zeros_more {k} {low} {row} {i} z l v e h = record {
-  within = omega (arith, z.within);
-  from = λ g. omega arith;
-  zeros = λ j g m. at j g m (dec_lt j i);
-}
-  where
-    at : (j : ℕ) → i - 1 ≤ j → j < k → Dec (j < i) → get_or row j 0 ≡ 0
-    at j g m (yes d) = let f : j ≡ i - 1 = omega arith in rw f (sym e ∙ h)
-    at j g m (no d) = z.zeros j (omega arith) m
-
--- the next block, which begins with one number more
-pub zeros_next : {k low : ℕ} {row : List ℕ} {i : ℕ} → ZerosFrom k low row i → i < k → ZerosFrom k low row (i + 1)
-zeros_next z l = record { within = omega arith; from = λ g. omega (arith, z.from l); zeros = λ j g m. z.zeros j (omega arith) m }

@@ -6,4 +6,3 @@ pub mod EmptyBlocks
 pub mod Search
 pub mod Writing
 pub mod Accepted
-pub mod Within

@@ -22,8 +22,8 @@ use Rattle.model.proofs.Counts.{ones_front, ones_any}
 use Rattle.model.proofs.Answers.{In, kept_in, all_below}
 use Rattle.sets.specs.NodeSets.{always}
 use Rattle.eval.specs.Evaluation.{reached}
-use Rattle.answers.specs.declared.Spot.{Spot}
-use Rattle.answers.specs.Search.{row_at, ahead, Stands, Heads, EmptyBlock}
+use Rattle.std.specs.Prelude.{Some, None}
+use Rattle.answers.specs.Search.{Spot, row_at, ahead, Stands, Heads, EmptyBlock}
 use Rattle.narrowing.proofs.Calls.{zeros}
 use Rattle.answers.proofs.Odometer.{zeros_first}
 use Rattle.answers.proofs.EmptyBlocks.{block_left_out, block_fewer}
@@ -73,17 +73,16 @@ module _ (n k : ℕ) (c : Cursor) where
   start_fresh t l h = rw (t, zeros k h) (sym (zeros_first n k l))
 
 -- a spot from which some of all rows go on is at a row of nodes
-module _ (n k : ℕ) (s : Spot) where
-  stands_in : (rows : List Row) → ahead k (all_rows n k) s ≡ rows → ((r : Row) → In r rows → In r (all_rows n k)) → Stands n k s
-  stands_in rows e f t =
-      all_below n k (row_at k s)
-      (f (row_at k s) (subst (λ (z : List Row). In (row_at k s) z) (let w : (row_at k s ∷ keep (less (row_at k s)) (all_rows n k)) ≡ rows = rw t at e in w) (◌⊎◌.inl refl)))
+module _ (n k : ℕ) where
+  stands_in : (s : Spot) (rows : List Row) → ahead k (all_rows n k) s ≡ rows → ((r : Row) → In r rows → In r (all_rows n k)) → Stands n k s
+  stands_in None rows e f = tt
+  stands_in (Some row) rows e f = all_below n k (row_at k row) (f (row_at k row) (subst (λ (z : List Row). In (row_at k row) z) e (◌⊎◌.inl refl)))
 
-  pub stands_next : (row : Row) → ahead k (all_rows n k) s ≡ keep (less row) (all_rows n k) → Stands n k s
-  stands_next row e = stands_in (keep (less row) (all_rows n k)) e (λ r. kept_in (less row) r (all_rows n k))
+  pub stands_next : (s : Spot) (row : Row) → ahead k (all_rows n k) s ≡ keep (less row) (all_rows n k) → Stands n k s
+  stands_next s row e = stands_in s (keep (less row) (all_rows n k)) e (λ r. kept_in (less row) r (all_rows n k))
 
-  pub stands_first : (c : Cursor) → ahead k (all_rows n k) s ≡ after k (all_rows n k) c → Stands n k s
-  stands_first c e = stands_in (after k (all_rows n k) c) e (λ r. in_after r (all_rows n k) k c)
+  pub stands_first : (s : Spot) (c : Cursor) → ahead k (all_rows n k) s ≡ after k (all_rows n k) c → Stands n k s
+  stands_first s c e = stands_in s (after k (all_rows n k) c) e (λ r. in_after r (all_rows n k) k c)
 
 -- two tests, in either order
 
@@ -119,21 +118,18 @@ module _ (t q : List ℕ) (k : ℕ) where
 
   -- the search: the answers from where it stands are those from where it began
   module _ (at s : Spot) (inv : keep (satisfied t q) (ahead k (all_rows (size_of t) k) at) ≡ keep (satisfied t q) (ahead k (all_rows (size_of t) k) s)) where
-    pub seek_hit : (b : Bool) → at.there ≡ true → b ≡ satisfied t q (row_at k at) → b ≡ true
-        → ahead k (answers t q k) at ≡ keep (satisfied t q) (ahead k (all_rows (size_of t) k) s)
-    seek_hit b h e y = rw h (ap {B = List Row} (λ l. row_at k at ∷ l) (sym (answers_kept (less (row_at k at)))) ∙ let w = rw (h, sym e ∙ y) at inv in w)
+    module _ (row : List ℕ) (is : at ≡ Some row) where
+      pub seek_hit : (b : Bool) → b ≡ satisfied t q (row_at k row) → b ≡ true → ahead k (answers t q k) (Some row) ≡ keep (satisfied t q) (ahead k (all_rows (size_of t) k) s)
+      seek_hit b e y = ap {B = List Row} (λ l. row_at k row ∷ l) (sym (answers_kept (less (row_at k row)))) ∙ let w = rw (is, sym e ∙ y) at inv in w
 
-    pub seek_done : at.there ≡ false → ahead k (answers t q k) at ≡ keep (satisfied t q) (ahead k (all_rows (size_of t) k) s)
-    seek_done h = rw h (let w = rw h at inv in w)
+      -- behind an empty block that begins with the row
+      module _ (i : ℕ) (w : EmptyBlock t q k i row) (r : Spot) (e : ahead k (all_rows (size_of t) k) r ≡ keep (less (take i row)) (all_rows (size_of t) k)) where
+        pub seek_on : (b : Bool) → b ≡ satisfied t q (row_at k row) → b ≡ false
+            → keep (satisfied t q) (ahead k (all_rows (size_of t) k) r) ≡ keep (satisfied t q) (ahead k (all_rows (size_of t) k) s)
+        seek_on b p f =
+            ap (keep (satisfied t q)) e
+            ∙ answers_kept (less (take i row)) ∙ block_left_out w ∙ sym (answers_kept (less (row_at k row)))
+            ∙ (let w = rw (is, sym p ∙ f) at inv in w)
 
-    -- behind an empty block that begins with the row
-    module _ (i : ℕ) (w : EmptyBlock t q k i at.row) (r : Spot) (e : ahead k (all_rows (size_of t) k) r ≡ keep (less (take i at.row)) (all_rows (size_of t) k)) (h : at.there ≡ true) where
-      pub seek_on : (b : Bool) → b ≡ satisfied t q (row_at k at) → b ≡ false
-          → keep (satisfied t q) (ahead k (all_rows (size_of t) k) r) ≡ keep (satisfied t q) (ahead k (all_rows (size_of t) k) s)
-      seek_on b p f =
-          ap (keep (satisfied t q)) e
-          ∙ answers_kept (less (take i at.row)) ∙ block_left_out w ∙ sym (answers_kept (less (row_at k at)))
-          ∙ (let w = rw (h, sym p ∙ f) at inv in w)
-
-      pub seek_less : length (ahead k (all_rows (size_of t) k) r) < length (ahead k (all_rows (size_of t) k) at)
-      seek_less = rw (e, h) (omega (arith, block_fewer w (all_rows (size_of t) k)))
+        pub seek_less : length (ahead k (all_rows (size_of t) k) r) < length (ahead k (all_rows (size_of t) k) at)
+        seek_less = rw (e, is) (omega (arith, block_fewer w (all_rows (size_of t) k)))

@@ -3,7 +3,7 @@ use Prim.Native.Nat.{ℕ, zero, suc, ◌+◌, ◌*◌, ◌/◌, ◌<◌, ◌≤�
 use native.Mathlib.Nat.{add_comm, zero-mul, suc-mul, mul-le-mul_right, div-mul-le_self, div-le_self}
 use native.Mathlib.Numerals.{add-one}
 use native.Mathlib.Omega.{arith}
-use mathlib.Core.Path.{◌≡◌, refl, sym, ap, ap₂, ◌∙◌}
+use mathlib.Core.Path.{◌≡◌, refl, sym, ap, ap₂, ◌∙◌, subst}
 use mathlib.Core.Logic.{◌⊎◌}
 use mathlib.Core.Bool.{Bool, true, false, cond}
 use mathlib.Core.List.{List, [], ◌∷◌, ◌++◌, append_assoc, append-nil, head-eq_of_cons-eq, tail-eq_of_cons-eq}
@@ -14,29 +14,10 @@ use Rattle.model.specs.declared.Cursor.{Cursor}
 use Rattle.model.specs.Answers.{Row, less, keep}
 use Rattle.model.specs.Pages.{after, at_row, moved, flat, some, paged}
 use Rattle.model.proofs.Answers.{In, Wide}
-use Rattle.answers.specs.declared.Spot.{Spot}
-use Rattle.answers.specs.declared.Paged.{Paged}
+use Rattle.std.specs.Prelude.{Some, None}
 use Rattle.model.specs.Services.{PageLeaves}
-use Rattle.answers.specs.Search.{row_at, ahead, page_of}
+use Rattle.answers.specs.Search.{Spot, row_at, ahead, page_of}
 use Rattle.answers.proofs.Paging.{in_take, in_drop, in_after, some_not}
-
-pub paste_more : (d s l : List ℕ) (at j : ℕ) → l ≡ paste d at s j → at + j < length d → j < length s → set l (at + j) (get_or s j 0) ≡ paste d at s (j + 1)
-paste_more d s l at j e h g = ap (λ (z : List ℕ). set z (at + j) (get_or s j 0)) e ∙ paste-suc d at s j 0 h g ∙ ap (paste d at s) (sym (add-one j))
-
-pub paste_done : (d s l : List ℕ) (at j k : ℕ) → l ≡ paste d at s j → j ≤ k → k ≤ j → l ≡ paste d at s k
-paste_done d s l at j k e h g = e ∙ ap (paste d at s) (let z : j ≡ k = omega arith in z)
-
--- the cursor at a row of three numbers of which k count
-pub cursor_row : (k : ℕ) (c : Cursor) (row : List ℕ) (second third : ℕ) → second ≡ cond (ltb 1 k) (get_or row 1 0) c.second → third ≡ cond (ltb 2 k) (get_or row 2 0) c.third
-    → 1 ≤ k → k ≤ 3 → length row ≡ 3 → ◌≡◌ {A = Cursor} (record { begun = 1; first = get_or row 0 0; second = second; third = third }) (at_row c (take k row))
-cursor_row k c [] u v p q l h e = absurd (omega arith)
-cursor_row k c (x ∷ []) u v p q l h e = absurd (omega arith)
-cursor_row k c (x ∷ y ∷ []) u v p q l h e = absurd (omega arith)
-cursor_row zero c (x ∷ y ∷ z ∷ row) u v p q l h e = absurd (omega arith)
-cursor_row (suc zero) c (x ∷ y ∷ z ∷ row) u v p q l h e = rw (p, q)
-cursor_row (suc (suc zero)) c (x ∷ y ∷ z ∷ row) u v p q l h e = rw (p, q)
-cursor_row (suc (suc (suc zero))) c (x ∷ y ∷ z ∷ row) u v p q l h e = rw (p, q)
-cursor_row (suc (suc (suc (suc k)))) c (x ∷ y ∷ z ∷ row) u v p q l h e = absurd (omega arith)
 
 -- one row more
 
@@ -108,39 +89,36 @@ module _ {k : ℕ} {L : List Row} {c : Cursor} {first : List ℕ} {at : Spot} {l
     going_count = omega (arith, g.few, div-le_self (length first) k)
 
   -- the spot is at one of the rows
-  module _ (there : at.there ≡ true) where
-    next : drop count (after k L c) ≡ row_at k at ∷ keep (less (row_at k at)) L
-    next = sym g.left ∙ rw there
+  module _ (row : List ℕ) (there : at ≡ Some row) where
+    next : drop count (after k L c) ≡ row_at k row ∷ keep (less (row_at k row)) L
+    next = sym g.left ∙ ap (ahead k L) there
 
-    pub going_in : In (row_at k at) L
-    going_in = in_after (row_at k at) L k c (in_drop count (row_at k at) (after k L c) (rw next (◌⊎◌.inl refl)))
+    pub going_in : In (row_at k row) L
+    going_in = in_after (row_at k row) L k c (in_drop count (row_at k row) (after k L c) (rw next (◌⊎◌.inl refl)))
 
     -- one turn
-    pub going_turn : (count ≡ length first / k → ⊥) → (rows₁ : List ℕ) → rows₁ ≡ paste rows (count * k) at.row k
-        → (last₁ : Cursor) → last₁ ≡ at_row last (row_at k at)
-        → (at₁ : Spot) → ahead k L at₁ ≡ keep (less (row_at k at)) L
+    pub going_turn : (count ≡ length first / k → ⊥) → (rows₁ : List ℕ) → rows₁ ≡ paste rows (count * k) row k
+        → (last₁ : Cursor) → last₁ ≡ at_row last (row_at k row)
+        → (at₁ : Spot) → ahead k L at₁ ≡ keep (less (row_at k row)) L
         → Going k L c first at₁ last₁ (count + 1) rows₁
     going_turn ne rows₁ er last₁ el at₁ ea =
         record {
           wide = g.wide;
           left = ea ∙ sym D;
-          gone = el ∙ ap (λ (z : Cursor). at_row z row) g.gone ∙ sym (ap (moved c) T ∙ moved_one c (take count (after k L c)) row);
-          held = er ∙ ap₂ (λ (x y : List ℕ). x ++ row ++ y) front back ∙ sym (ap₂ (λ (x : List ℕ) (m : ℕ). x ++ drop m first) F more);
-          long = ap length T ∙ length-append (take count (after k L c)) (row ∷ []) ∙ omega (arith, g.long);
+          gone = el ∙ ap (λ (z : Cursor). at_row z (row_at k row)) g.gone ∙ sym (ap (moved c) T ∙ moved_one c (take count (after k L c)) (row_at k row));
+          held = er ∙ ap₂ (λ (x y : List ℕ). x ++ row_at k row ++ y) front back ∙ sym (ap₂ (λ (x : List ℕ) (m : ℕ). x ++ drop m first) F more);
+          long = ap length T ∙ length-append (take count (after k L c)) (row_at k row ∷ []) ∙ omega (arith, g.long);
           few = omega (arith, g.few);
         }
       where
-        row : Row
-        row = row_at k at
+        T : take (count + 1) (after k L c) ≡ take count (after k L c) ++ (row_at k row ∷ [])
+        T = rw add-one (split_one (after k L c) count (row_at k row) (keep (less (row_at k row)) L) next).0
 
-        T : take (count + 1) (after k L c) ≡ take count (after k L c) ++ (row ∷ [])
-        T = rw add-one (split_one (after k L c) count row (keep (less row) L) next).0
+        D : drop (count + 1) (after k L c) ≡ keep (less (row_at k row)) L
+        D = rw add-one (split_one (after k L c) count (row_at k row) (keep (less (row_at k row)) L) next).1
 
-        D : drop (count + 1) (after k L c) ≡ keep (less row) L
-        D = rw add-one (split_one (after k L c) count row (keep (less row) L) next).1
-
-        F : flat (take (count + 1) (after k L c)) ≡ flat (take count (after k L c)) ++ row
-        F = ap flat T ∙ flat_append (take count (after k L c)) (row ∷ []) ∙ ap (λ (z : List ℕ). flat (take count (after k L c)) ++ z) (append-nil row)
+        F : flat (take (count + 1) (after k L c)) ≡ flat (take count (after k L c)) ++ row_at k row
+        F = ap flat T ∙ flat_append (take count (after k L c)) (row_at k row ∷ []) ∙ ap (λ (z : List ℕ). flat (take count (after k L c)) ++ z) (append-nil (row_at k row))
 
         more : (count + 1) * k ≡ count * k + k
         more = rw (add-one, suc-mul)
@@ -156,27 +134,28 @@ module _ {k : ℕ} {L : List Row} {c : Cursor} {first : List ℕ} {at : Spot} {l
             ∙ drop-drop k (count * k) first
 
   -- what a page leaves that is done
-  done : (r : Paged) (more : Bool) → r ≡ page_of count more last → take (length first / k) (after k L c) ≡ take count (after k L c) → some (drop (length first / k) (after k L c)) ≡ more
-      → PageLeaves (paged k L c first) r.reply r.cursor rows
-  done r more e T m = (
-    ap (λ (z : Paged). z.reply) e ∙ (λ i. record { number = 0; place = 0; count = sym (ap length T ∙ g.long) i; more = sym m i }),
-    ap (λ (z : Paged). z.cursor) e ∙ g.gone ∙ ap (moved c) (sym T),
+  done : (more : Bool) → take (length first / k) (after k L c) ≡ take count (after k L c) → some (drop (length first / k) (after k L c)) ≡ more
+      → PageLeaves (paged k L c first) (page_of count more last).reply last rows
+  done more T m = (
+    (λ i. record { number = 0; place = 0; count = sym (ap length T ∙ g.long) i; more = sym m i }),
+    g.gone ∙ ap (moved c) (sym T),
     g.held ∙ ap (λ (x : ℕ). flat (take count (after k L c)) ++ drop x first) (sym used) ∙ ap (λ (z : List Row). flat z ++ drop (length (flat z)) first) (sym T),
   )
 
   -- the buffer is full, and a row is left
-  pub page_full : (r : Paged) → r ≡ page_of count true last → at.there ≡ true → count ≡ length first / k → PageLeaves (paged k L c first) r.reply r.cursor rows
-  page_full r e there f =
-      done r true e (ap (λ (x : ℕ). take x (after k L c)) (sym f)) (ap (λ (x : ℕ). some (drop x (after k L c))) (sym f) ∙ rw (next there))
+  pub page_full : (row : List ℕ) → at ≡ Some row → count ≡ length first / k → PageLeaves (paged k L c first) (page_of (length first / k) true last).reply last rows
+  page_full row there f =
+      subst (λ (z : ℕ). PageLeaves (paged k L c first) (page_of z true last).reply last rows) f
+      (done true (ap (λ (x : ℕ). take x (after k L c)) (sym f)) (ap (λ (x : ℕ). some (drop x (after k L c))) (sym f) ∙ rw (next row there)))
 
   -- no row is left
-  pub page_out : (r : Paged) → r ≡ page_of count false last → at.there ≡ false → PageLeaves (paged k L c first) r.reply r.cursor rows
-  page_out r e gone =
-      done r false e (take_all (length first / k) (after k L c) (omega (arith, short, g.few)) ∙ sym (take_all count (after k L c) short))
+  pub page_out : at ≡ None → PageLeaves (paged k L c first) (page_of count false last).reply last rows
+  page_out gone =
+      done false (take_all (length first / k) (after k L c) (omega (arith, short, g.few)) ∙ sym (take_all count (after k L c) short))
       (some_not (drop (length first / k) (after k L c)) (omega (arith, length-drop (length first / k) (after k L c), short, g.few)))
     where
       none : [] ≡ drop count (after k L c)
-      none = rw gone at g.left
+      none = sym (ap (ahead k L) gone) ∙ g.left
 
       short : length (after k L c) ≤ count
       short = omega (arith, length-drop count (after k L c), ap length none)

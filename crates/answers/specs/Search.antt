@@ -1,33 +1,39 @@
 -- How the code goes through the rows: what its inner functions ask for and give.
-use Rattle.std.specs.Prelude.{ℕ, ◌≤◌, ◌<◌, ◌≡◌, Bool, true, false, cond, List, [], ◌∷◌, length, take, get_or}
+use Rattle.std.specs.Prelude.{ℕ, ◌≤◌, ◌<◌, ◌≡◌, Bool, true, false, List, [], ◌∷◌, length, take, get_or, Option, Some, None}
 use Rattle.model.specs.Tree.{size_of, tree_of}
 use Rattle.model.specs.QueryTable.{path_at, last_of}
 use Rattle.model.specs.Results.{assigned}
 use Rattle.model.specs.Accepted.{Below, Shaped}
-use Rattle.model.specs.Answers.{Row, less, keep, satisfied}
+use Rattle.model.specs.Answers.{Row, less, keep, satisfied, answers}
 use Rattle.model.specs.Sharing.{opened, unfilled, has_pair}
 use Rattle.pruning.specs.Pruning.{bound_at}
 use Rattle.engines.specs.Engines.{Searchable}
-use Rattle.narrowing.specs.Narrowing.{Core}
+use Rattle.narrowing.specs.declared.Search.{Search}
+use Rattle.narrowing.specs.Narrowing.{CoreOf}
 use Rattle.answers.specs.declared.Plan.{Plan}
-use Rattle.answers.specs.declared.Spot.{Spot}
-use Rattle.answers.specs.declared.Paged.{Paged}
+use Rattle.model.specs.declared.PageReply.{PageReply}
 use Rattle.model.specs.declared.Cursor.{Cursor}
 use Rattle.model.specs.declared.Reply.{Reply}
 
 -- Rows.
 
+-- a place among all rows: at a row, of which the first numbers count, or past the last row
+abbrev pub Spot : Type 0
+Spot = Option (List ℕ)
+
 -- the row of a spot for k variables; its numbers from k on are ignored
-abbrev pub row_at : ℕ → Spot → Row
-row_at k s = take k s.row
+abbrev pub row_at : ℕ → List ℕ → Row
+row_at k row = take k row
 
 -- of rows in order, those from a spot on: its own row and the rows after it; none where the spot is past the last row
 abbrev pub ahead : ℕ → List Row → Spot → List Row
-ahead k rows s = cond s.there (row_at k s ∷ keep (less (row_at k s)) rows) []
+ahead k rows None = []
+ahead k rows (Some row) = row_at k row ∷ keep (less (row_at k row)) rows
 
 -- a spot past the last row, or at a row of nodes
 abbrev pub Stands : ℕ → ℕ → Spot → Type 0
-Stands n k s = s.there ≡ true → Below n (row_at k s)
+Stands n k None = Unit
+Stands n k (Some row) = Below n (row_at k row)
 
 -- Queries.
 
@@ -36,16 +42,24 @@ pub record Listed (t prev q : List ℕ) (k : ℕ) : Type 0 where
   pub searchable : Searchable t prev q k
   pub shaped : Shaped q
 
+-- the same of a search
+abbrev pub Lists : Search → Type 0
+Lists s = Listed s.tree.now s.prev.now s.query.now s.k
+
+-- the answers that a search is for
+abbrev pub answers_by : Search → List Row
+answers_by s = answers s.tree.now s.query.now s.k
+
 -- the query has a pair under the row, where the variables from i on stand for any node
 unfoldable pub satisfied_open : List ℕ → List ℕ → ℕ → List ℕ → ℕ → Bool
 satisfied_open t q k row i = has_pair (tree_of t) (assigned (take k row)) (opened (unfilled i k) (path_at q (last_of q)))
 
--- what the search for answers is handed: the plan says how many variables there are and which of them must be bound, and with the two sets
--- what is left of the query
-pub record Prepared (t prev q : List ℕ) (plan : Plan) (from to : List ℕ) : Type 0 where
-  pub listed : Listed t prev q plan.columns
-  pub bound : plan.bound ≡ bound_at q (last_of q)
-  pub core : Core t q plan.columns plan.entry plan.cut from to
+-- what the search for answers is handed: the plan says how many variables there are and which of them must be bound, and what is left of
+-- the query
+pub record Prepared (plan : Plan) : Type 0 where
+  pub listed : Lists plan.search
+  pub bound : plan.bound ≡ bound_at plan.search.query.now (last_of plan.search.query.now)
+  pub core : CoreOf plan.search.tree.now plan.search.query.now plan.search.k plan.left
 
 -- Blocks of rows: those that begin with the same i numbers.
 
@@ -68,6 +82,11 @@ pub record EmptyBlock (t q : List ℕ) (k i : ℕ) (row : List ℕ) : Type 0 whe
   pub none : (x : Row) → length x ≡ k → Below (size_of t) x → satisfied t q x ≡ true → take i x ≡ take i row → ⊥
 
 -- Results.
+
+-- the reply to a page call, and the cursor after it
+pub record Paged : Type 0 where
+  pub reply : PageReply
+  pub cursor : Cursor
 
 -- the result of the by-value page function, for an accepted call
 abbrev pub page_of : ℕ → Bool → Cursor → Paged

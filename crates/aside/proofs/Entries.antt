@@ -3,20 +3,20 @@ use Prim.Native.Nat.{ℕ, zero, suc, ◌+◌, ◌*◌, ◌≤◌, ◌<◌, max}
 use native.Mathlib.Nat.{not-suc-le-zero}
 use native.Mathlib.Omega.{arith}
 use mathlib.Core.Path.{◌≡◌, sym, ap, ◌∙◌}
-use mathlib.Core.Bool.{Bool, true, false, not, cond}
+use mathlib.Core.Bool.{true, false, cond}
 use mathlib.Core.List.{List}
 use lib.ListN.{get_or}
-use borrow.Author.Tests.{not-true, not-false}
 use Rattle.model.specs.declared.Entry.{Entry}
 use Rattle.model.specs.Sets.{bit}
 use Rattle.model.specs.Encoding.{size}
 use Rattle.model.specs.QueryTable.{entries_of, kind, left, right, entry}
 use Rattle.model.specs.Kinds.{left_path, right_path, right_expr, has_left, has_right}
 use Rattle.model.proofs.Booleans.{no_yes, yes_right, or_left}
-use Rattle.model.proofs.Formed.{left_lower, right_lower}
 use Rattle.model.specs.Accepted.{Formed}
-use Rattle.aside.specs.Aside.{in_turn, two_tables, aside_in, term_at, aside_at, CountsTo}
+use Rattle.aside.specs.declared.Operands.TheVariants as Operands
+use Rattle.aside.specs.Aside.{in_turn, two_tables, aside_in, term_at, aside_at, PassedTo, OperandsOf}
 use Rattle.aside.proofs.Turns.{either_left, either_right, either_most}
+use Rattle.aside.proofs.Numbers.{kept_for}
 use Rattle.aside.proofs.Terms.{Form, form}
 use Rattle.aside.proofs.Terms.Form.{none!, one!, two! }
 
@@ -100,41 +100,29 @@ aside_within q ok e em = go (suc e) e (omega arith) em
 
 -- one entry, from the counts of those before it
 
-module _ {q : List ℕ} {e : ℕ} {f : Entry} (fe : f ≡ entry q e) (ok : Formed q) (few : entries_of q ≤ 66) (em : e < entries_of q) where
-  pub did_none : (b : Bool) → b ≡ has_left f.kind → not b ≡ true → 0 ≡ aside_at q e
-  did_none b p h = sym (aside_none q ok e em (rw fe at (sym p) ∙ not-true b h))
+module _ {q : List ℕ} {e : ℕ} {kept : List ℕ} (pass : PassedTo (aside_at q) q e kept) where
+  pub did_none : OperandsOf q e Operands.None → 0 ≡ aside_at q e
+  did_none a = sym (aside_none q pass.0 e pass.1.1.1 a)
 
-  module _ (b : Bool) (p : b ≡ has_left f.kind) (h : not b ≡ false) where
-    has_left_lem : has_left (kind q e) ≡ true
-    has_left_lem = rw fe at (sym p) ∙ not-false b h
+  pub did_one : {i : ℕ} → OperandsOf q e (Operands.One i) → get_or kept i 0 ≡ aside_at q e
+  did_one a = kept_for (aside_at q) pass.1.1.0 a.1.1.0 a.1.1.1 ∙ sym (aside_one q pass.0 e pass.1.1.1 a.0 a.1.0)
 
-    pub left_index : f.left < 66
-    left_index = let l : left q e < e = left_lower q ok e em has_left_lem in rw fe (omega arith)
+  module _ {i j : ℕ} (a : OperandsOf q e (Operands.Two i j)) where
+    at_left : get_or kept i 0 ≡ aside_at q (left q e)
+    at_left = kept_for (aside_at q) pass.1.1.0 a.1.0 a.1.1.1.0
 
-    module _ (kept : List ℕ) (c : CountsTo q e kept) where
-      at_left : get_or kept f.left 0 ≡ aside_at q (left q e)
-      at_left = rw fe (c.at (left q e) (left_lower q ok e em has_left_lem))
+    at_right : get_or kept j 0 ≡ aside_at q (right q e)
+    at_right = kept_for (aside_at q) pass.1.1.0 a.1.1.0 a.1.1.1.1
 
-      pub left_small : get_or kept f.left 0 < 66
-      left_small =
-          let l : left q e < e = left_lower q ok e em has_left_lem in
-          omega (arith, at_left, aside_within q ok (left q e) (omega arith))
+    pub left_small : get_or kept i 0 < 66
+    left_small = let p = pass.1 in omega (arith, pass.1.1.0.at i a.1.1.1.0, aside_within q pass.0 i (omega arith))
 
-      pub did_one : (d : Bool) → d ≡ has_right f.kind → not d ≡ true → get_or kept f.left 0 ≡ aside_at q e
-      did_one d r k = at_left ∙ sym (aside_one q ok e em has_left_lem (rw fe at (sym r) ∙ not-true d k))
+    module _ {k : ℕ} {f : Entry} (p : k ≡ f.kind) (fe : f ≡ entry q e) where
+      known : k ≡ kind q e
+      known = p ∙ ap (λ (f : Entry). f.kind) fe
 
-      module _ (d : Bool) (r : d ≡ has_right f.kind) (k : not d ≡ false) where
-        has_right_lem : has_right (kind q e) ≡ true
-        has_right_lem = rw fe at (sym r) ∙ not-false d k
+      pub did_two : (o : ℕ) → o ≡ in_turn (get_or kept i 0) (get_or kept j 0) → two_tables k ≡ true → o ≡ aside_at q e
+      did_two o g h = g ∙ rw (at_left, at_right) (sym (aside_two q pass.0 e pass.1.1.1 (rw known at h)))
 
-        at_right : get_or kept f.right 0 ≡ aside_at q (right q e)
-        at_right = rw fe (c.at (right q e) (right_lower q ok e em has_right_lem))
-
-        pub did_two : (o : ℕ) → o ≡ in_turn (get_or kept f.left 0) (get_or kept f.right 0) → (m : Bool) → m ≡ two_tables f.kind → m ≡ true → o ≡ aside_at q e
-        did_two o g m s l = g ∙ rw (at_left, at_right) (sym (aside_two q ok e em (rw fe at (sym s) ∙ l)))
-
-        pub did_larger : (o : ℕ) → o ≡ max (get_or kept f.left 0) (get_or kept f.right 0) → (m : Bool) → m ≡ two_tables f.kind → m ≡ false → o ≡ aside_at q e
-        did_larger o g m s l = g ∙ rw (at_left, at_right) (sym (aside_larger q ok e em has_right_lem (rw fe at (sym s) ∙ l)))
-
-  pub right_index : (d : Bool) → d ≡ has_right f.kind → not d ≡ false → f.right < 66
-  right_index d r k = let l : right q e < e = right_lower q ok e em (rw fe at (sym r) ∙ not-false d k) in rw fe (omega arith)
+      pub did_larger : (o : ℕ) → o ≡ max (get_or kept i 0) (get_or kept j 0) → two_tables k ≡ false → o ≡ aside_at q e
+      did_larger o g h = g ∙ rw (at_left, at_right) (sym (aside_larger q pass.0 e pass.1.1.1 a.0 (rw known at h)))

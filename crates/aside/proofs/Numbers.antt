@@ -2,7 +2,7 @@
 use Prim.Native.Nat.{ℕ, ◌+◌, ◌≤◌, ◌<◌}
 use native.Mathlib.Nat.{not-suc-le-zero}
 use native.Mathlib.Omega.{arith}
-use mathlib.Core.Path.{◌≡◌, ◌∙◌, subst}
+use mathlib.Core.Path.{◌≡◌, ap, ◌∙◌, subst}
 use mathlib.Core.List.{List}
 use lib.ListN.{get_or, set, replicate, length-set, length-replicate}
 use lib.Seq.{get_or-set_same, get_or-set_other}
@@ -25,3 +25,7 @@ module _ (f : ℕ → ℕ) where
 
   pub numbers_end : (e n : ℕ) (kept : List ℕ) → NumbersTo f e kept → e ≤ n → n ≤ e → NumbersTo f n kept
   numbers_end e n kept c l h = subst (λ (k : ℕ). NumbersTo f k kept) (let g : e ≡ n = omega arith in g) c
+
+  -- what is kept for an entry before e
+  pub kept_for : {e x i : ℕ} {kept : List ℕ} → NumbersTo f e kept → x ≡ i → x < e → get_or kept x 0 ≡ f i
+  kept_for c p l = c.at _ l ∙ ap f p

@@ -1,13 +1,16 @@
 -- Laws of the tables that two operands keep aside in turn, and the kinds that have two tables.
 use Prim.Native.Nat.{ℕ, suc, ◌+◌, ◌^◌, ◌≤◌, ◌<◌, max}
 use native.Mathlib.Omega.{arith}
-use mathlib.Core.Path.{◌≡◌, sym, ap, ◌∙◌}
+use mathlib.Core.Path.{◌≡◌, refl, sym, ap, ◌∙◌}
 use mathlib.Core.Logic.{◌⊎◌, ⊎_elim}
 use mathlib.Core.Bool.{Bool, true, false, cond, ◌&&◌, ◌||◌}
 use lib.Dec.{ltb, eqb}
 use borrow.Author.Tests.{ltb-true, lt-ltb, eqb-true}
 use Rattle.aside.specs.Aside.{in_turn, two_tables}
+use Rattle.model.specs.declared.kind.Kind.{Kind}
+use Rattle.model.specs.declared.kind.Kind.TheVariants.{Compose, Union, Intersect, Except, Same}
 use Rattle.model.specs.Kinds.{left_path, right_path}
+use Rattle.model.specs.Numbers.{kind_number}
 use Rattle.model.proofs.Booleans.{lt_or_le, bool_ext, both_yes, yes_left, yes_right, or_left, or_cases}
 use Rattle.model.proofs.KindTests.{left_path_by, right_path_by}
 
@@ -95,3 +98,22 @@ module _ (k : ℕ) where
   two_kinds h =
       ⊎_elim (λ p. ◌⊎◌.inl (ltb-true 0 k (yes_left (ltb 0 k) (ltb k 5) p), ltb-true k 5 (yes_right (ltb 0 k) (ltb k 5) p))) (λ p. ◌⊎◌.inr (eqb-true k 14 p))
       (or_cases (ltb 0 k && ltb k 5) (eqb k 14) (sym two_tables_by ∙ h))
+
+-- the same of a kind by its name
+
+pub tables_of : (k : Kind) → (k ≡ Compose) ⊎ ((k ≡ Union) ⊎ ((k ≡ Intersect) ⊎ ((k ≡ Except) ⊎ (k ≡ Same)))) → true ≡ two_tables (kind_number k)
+unfolding left_path right_path
+tables_of k (◌⊎◌.inl e) = rw e
+tables_of k (◌⊎◌.inr (◌⊎◌.inl e)) = rw e
+tables_of k (◌⊎◌.inr (◌⊎◌.inr (◌⊎◌.inl e))) = rw e
+tables_of k (◌⊎◌.inr (◌⊎◌.inr (◌⊎◌.inr (◌⊎◌.inl e)))) = rw e
+tables_of k (◌⊎◌.inr (◌⊎◌.inr (◌⊎◌.inr (◌⊎◌.inr e)))) = rw e
+
+pub no_tables : (k : Kind) → (k ≡ Compose → ⊥) → (k ≡ Union → ⊥) → (k ≡ Intersect → ⊥) → (k ≡ Except → ⊥) → (k ≡ Same → ⊥) → false ≡ two_tables (kind_number k)
+unfolding left_path right_path
+no_tables Compose a b c d e = absurd (a refl)
+no_tables Union a b c d e = absurd (b refl)
+no_tables Intersect a b c d e = absurd (c refl)
+no_tables Except a b c d e = absurd (d refl)
+no_tables Same a b c d e = absurd (e refl)
+no_tables k a b c d e = refl

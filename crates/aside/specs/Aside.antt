@@ -1,10 +1,12 @@
 -- How many tables are kept aside while a query is evaluated over bits. An operation on two tables evaluates one operand, keeps its
 -- table aside, and evaluates the other.
-use Rattle.std.specs.Prelude.{ℕ, suc, ◌<◌, min, max, ◌≡◌, Bool, ◌&&◌, cond, List, length, get_or}
+use Rattle.std.specs.Prelude.{ℕ, suc, ◌≤◌, ◌<◌, min, max, ◌≡◌, Bool, true, false, ◌&&◌, cond, List, length, get_or}
 use Rattle.model.specs.Syntax.{Path}
-use Rattle.model.specs.Kinds.{is_path, left_path, right_path}
+use Rattle.model.specs.Kinds.{is_path, left_path, right_path, has_left, has_right}
 use Rattle.model.specs.Encoding.{Term, path_term, expr_term, size}
-use Rattle.model.specs.QueryTable.{entries_of, kind, path_at, expr_at}
+use Rattle.model.specs.QueryTable.{entries_of, kind, left, right, path_at, expr_at}
+use Rattle.model.specs.Accepted.{Formed}
+use Rattle.aside.specs.declared.Operands.{Operands}
 
 -- two operands in turn, which need a and b: the one that needs more first, then the other with one table more aside; so it is the
 -- larger of the two, or one more where they are equal (proofs/Turns.antt: turn_less, turn_same)
@@ -42,6 +44,21 @@ aside_at q e = aside_in (term_at q e)
 pub record NumbersTo (f : ℕ → ℕ) (n : ℕ) (r : List ℕ) : Type 0 where
   pub size : length r ≡ 66
   pub at : (e : ℕ) → e < n → get_or r e 0 ≡ f e
+
+-- a pass over the entries of a table has come to entry e, with the numbers of those before it
+abbrev pub PassedTo : (ℕ → ℕ) → List ℕ → ℕ → List ℕ → Type 0
+PassedTo f q e kept = Formed q × ((entries_of q ≤ 66) × (NumbersTo f e kept × (e < entries_of q)))
+
+-- what a pass asks of what it calls for each entry with the numbers of those before it: that it can be called, and gives the entry's number
+pub record Numbering (f : ℕ → ℕ) (q : List ℕ) (pre : ℕ → List ℕ → Type 0) (post : ℕ → List ℕ → ℕ → Type 0) : Type 0 where
+  pub called : (e : ℕ) (kept : List ℕ) → PassedTo f q e kept → pre e kept
+  pub given : (e : ℕ) (kept : List ℕ) (k : ℕ) → PassedTo f q e kept → post e kept k → k ≡ f e
+
+-- the operands of entry e of a query table: none, or one, or two entries before it
+abbrev pub OperandsOf : List ℕ → ℕ → Operands → Type 0
+OperandsOf q e Operands.None = has_left (kind q e) ≡ false
+OperandsOf q e (Operands.One i) = (has_left (kind q e) ≡ true) × ((has_right (kind q e) ≡ false) × ((i ≡ left q e) × (i < e)))
+OperandsOf q e (Operands.Two i j) = (has_right (kind q e) ≡ true) × ((i ≡ left q e) × ((j ≡ right q e) × ((i < e) × (j < e))))
 
 -- the first n of them how many tables are kept aside for each entry
 abbrev pub CountsTo : List ℕ → ℕ → List ℕ → Type 0

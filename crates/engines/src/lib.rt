@@ -12,53 +12,45 @@ mod reading;
 ghost use Rattle.std.specs.Prelude.{◌≡◌, true, false, cond, ◌*◌, ◌≤◌, length};
 ghost use Rattle.model.specs.Sets.{ones};
 ghost use Rattle.model.specs.Tree.{size_of};
-ghost use Rattle.eval.specs.Evaluation.{passed, reached};
-ghost use Rattle.engines.specs.Engines.{Suits};
+ghost use Rattle.eval.specs.Evaluation.{passed_for, reached_for};
+ghost use Rattle.engines.specs.Engines.{SuitsFor};
+
+use model::Call;
+use relations::table::Evaluation;
 
 // The image by the table of the path at entry e, which is made in the words.
 fn path_in(
-    tree: &[u16],
-    prev: &[u16],
-    query: &[u16],
-    nodes: &[u16],
+    call: &Call,
     e: usize,
     back: bool,
     from: [u8; 256],
     words: &mut [u64],
     count: &mut usize,
 ) -> [u8; 256]
-    requires { Suits tree.now prev.now query.now nodes.now e true × (4 * size_of tree.now ≤ length words.old) }
-    ensures { (result ≡ reached tree.now query.now nodes.now e back from)
-        × (count.new ≡ ones result) }
+    requires { SuitsFor call.now e true × (4 * size_of call.now.tree.now ≤ length words.old) }
+    ensures { (result ≡ reached_for call.now e back from) × (count.new ≡ ones result) }
 {
-    let n = tree.len() / 2;
-    let counts = aside::counts(query);
-    let room = relations::write::room_for(counts[e] as usize);
-    relations::table::table(tree, prev, query, nodes, &counts, room, e, words);
-    let r = reading::image(words, n, back, from);
+    let evaluation = Evaluation {
+        call,
+        counts: aside::counts(call.query),
+    };
+    evaluation.table(evaluation.room(e), e, words);
+    let r = reading::image(words, call.tree.len() / 2, back, from);
     *count = sets::count_of(r);
     r
 }
 
 // The nodes where the node expression at entry e holds, by the tables of its paths, which are made in the words.
-fn node_in(
-    tree: &[u16],
-    prev: &[u16],
-    query: &[u16],
-    nodes: &[u16],
-    e: usize,
-    words: &mut [u64],
-    count: &mut usize,
-) -> [u8; 256]
-    requires { Suits tree.now prev.now query.now nodes.now e false × (4 * size_of tree.now ≤ length words.old) }
-    ensures { (result ≡ passed tree.now query.now nodes.now e)
-        × (count.new ≡ ones result) }
+fn node_in(call: &Call, e: usize, words: &mut [u64], count: &mut usize) -> [u8; 256]
+    requires { SuitsFor call.now e false × (4 * size_of call.now.tree.now ≤ length words.old) }
+    ensures { (result ≡ passed_for call.now e) × (count.new ≡ ones result) }
 {
-    let n = tree.len() / 2;
-    let counts = aside::counts(query);
-    let room = relations::write::room_for(counts[e] as usize);
-    let s = relations::table::node(tree, prev, query, nodes, &counts, room, e, words);
-    let r = reading::bytes_of(s, n);
+    let evaluation = Evaluation {
+        call,
+        counts: aside::counts(call.query),
+    };
+    let s = evaluation.node(evaluation.room(e), e, words);
+    let r = reading::bytes_of(s, call.tree.len() / 2);
     *count = sets::count_of(r);
     r
 }
@@ -67,69 +59,50 @@ fn node_in(
 // function alone. Both functions below call it, so that it is compiled as a function of its own and not as a part of an only caller: a
 // call that goes over sets takes no room for a table on its stack.
 fn by_tables(
-    tree: &[u16],
-    prev: &[u16],
-    query: &[u16],
-    nodes: &[u16],
+    call: &Call,
     e: usize,
     path: bool,
     back: bool,
     from: [u8; 256],
     count: &mut usize,
 ) -> [u8; 256]
-    requires { Suits tree.now prev.now query.now nodes.now e path }
-    ensures { (result
-        ≡ cond path (reached tree.now query.now nodes.now e back from)
-        (passed tree.now query.now nodes.now e))
+    requires { SuitsFor call.now e path }
+    ensures { (result ≡ cond path (reached_for call.now e back from) (passed_for call.now e))
         × (count.new ≡ ones result) }
 {
     let mut words = [0u64; 1024];
     if path {
-        return path_in(tree, prev, query, nodes, e, back, from, &mut words, count);
+        return path_in(call, e, back, from, &mut words, count);
     }
-    node_in(tree, prev, query, nodes, e, &mut words, count)
+    node_in(call, e, &mut words, count)
 }
 
 // What a set reaches by the path at entry e, or what reaches the set where back is set, and how many nodes that is: by whole tables where
 // the flag is set, else over sets.
 pub fn image(
-    tree: &[u16],
-    prev: &[u16],
-    query: &[u16],
-    nodes: &[u16],
+    call: &Call,
     whole: bool,
     e: usize,
     back: bool,
     from: [u8; 256],
     count: &mut usize,
 ) -> [u8; 256]
-    requires { Suits tree.now prev.now query.now nodes.now e true }
-    ensures { (result ≡ reached tree.now query.now nodes.now e back from)
-        × (count.new ≡ ones result) }
+    requires { SuitsFor call.now e true }
+    ensures { (result ≡ reached_for call.now e back from) × (count.new ≡ ones result) }
 {
     if whole {
-        return by_tables(tree, prev, query, nodes, e, true, back, from, count);
+        return by_tables(call, e, true, back, from, count);
     }
-    eval::path(tree, prev, query, nodes, e, back, from, count)
+    eval::path(call, e, back, from, count)
 }
 
 // The nodes where the node expression at entry e holds, and how many they are: by whole tables where the flag is set, else over sets.
-pub fn node(
-    tree: &[u16],
-    prev: &[u16],
-    query: &[u16],
-    nodes: &[u16],
-    whole: bool,
-    e: usize,
-    count: &mut usize,
-) -> [u8; 256]
-    requires { Suits tree.now prev.now query.now nodes.now e false }
-    ensures { (result ≡ passed tree.now query.now nodes.now e)
-        × (count.new ≡ ones result) }
+pub fn node(call: &Call, whole: bool, e: usize, count: &mut usize) -> [u8; 256]
+    requires { SuitsFor call.now e false }
+    ensures { (result ≡ passed_for call.now e) × (count.new ≡ ones result) }
 {
     if whole {
-        let none = sets::full(0);
-        return by_tables(tree, prev, query, nodes, e, false, false, none, count);
+        return by_tables(call, e, false, false, sets::full(0), count);
     }
-    eval::node(tree, prev, query, nodes, e, count)
+    eval::node(call, e, count)
 }

@@ -12,13 +12,11 @@ fn joined_rows(w: &[u64], n: usize, s: [u8; 256]) -> [u64; 4]
     ensures { result ≡ words 4 (joined_rows n (bit_relation w.now) s) }
 {
     let mut r = [0u64; 4];
-    let mut x = 0;
-    while x < n {
+    for x in 0..n {
         if s[x] != 0 {
             let next = tables::row::join(r, w, x);
             r = next;
         }
-        x += 1;
     }
     r
 }
@@ -29,7 +27,7 @@ fn meets(w: &[u64], x: usize, s: [u64; 4]) -> bool
     ensures { result ≡ meets (bit_relation w.now) s x }
 {
     let own = tables::row::get(w, x);
-    let both = tables::set::merged(sets::INTERSECTION, own, s);
+    let both = tables::set::merged(sets::Operation::Intersection, own, s);
     tables::row::is_occupied(&both, 0)
 }
 
@@ -39,10 +37,8 @@ fn meeting(w: &[u64], n: usize, s: [u64; 4]) -> [u8; 256]
     ensures { result ≡ tab 256 (upto n (meets (bit_relation w.now) s)) }
 {
     let mut r = [0u8; 256];
-    let mut x = 0;
-    while x < n {
+    for x in 0..n {
         r[x] = sets::byte(meets(w, x, s));
-        x += 1;
     }
     r
 }

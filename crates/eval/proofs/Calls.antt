@@ -1,25 +1,79 @@
 -- What the calls of the cycle require: an operand is an earlier entry of the right sort, so that the measure falls.
-use Prim.Native.Nat.{ℕ, ◌≤◌, ◌<◌}
+use Prim.Native.Nat.{ℕ, ◌-◌, ◌≤◌, ◌<◌}
 use native.Mathlib.Nat.{eq-or-lt_of_le}
 use native.Mathlib.Omega.{arith}
-use mathlib.Core.Path.{◌≡◌, sym, ap, ◌∙◌}
-use mathlib.Core.Logic.{⊎_elim}
+use mathlib.Core.Path.{◌≡◌, refl, sym, ap, ◌∙◌}
+use mathlib.Core.Logic.{◌⊎◌, inl, inr, ⊎_elim}
 use mathlib.Core.Bool.{Bool, true, false, cond, ◌||◌}
-use mathlib.Core.List.{List}
-use lib.ListN.{length}
+use mathlib.Core.List.{List, [], ◌∷◌}
+use lib.ListN.{length, get_or}
 use lib.Dec.{ltb, eqb}
 use borrow.Author.Tests.{lt-ltb, ltb-true, ltb-false, eq-eqb, eqb-true, eqb-false}
 use Rattle.model.specs.declared.Entry.{Entry}
+use Rattle.model.specs.declared.kind.Kind.{Kind}
+use Rattle.model.specs.declared.kind.Kind.TheVariants.{Step, Compose, Union, Intersect, Except, Filter, Variable, Root, Exists, Not, And, Or, Is, Star, Same}
+use Rattle.model.specs.Numbers.{kind_number}
 use Rattle.model.specs.Tree.{size_of}
 use Rattle.model.specs.QueryTable.{kind, entry, entries_of}
 use Rattle.model.specs.Kinds.{is_path, left_path, left_expr, right_path, right_expr, names_variable}
 use Rattle.model.specs.Results.{assigned}
 use Rattle.model.proofs.Booleans.{both_yes, or_left, or_right, or_cases, no_or}
 use Rattle.model.proofs.KindTests.{is_path_by, left_expr_by, right_expr_by}
-use Rattle.eval.specs.Evaluation.{Ready, Sorted}
+use Rattle.sets.specs.declared.Operation.{Operation}
+use Rattle.sets.specs.NodeSets.{operation_number}
+use Rattle.eval.specs.Evaluation.{Ready, Sorted, operation_of}
 
 pub kind_at : {f g : Entry} → f ≡ g → f.kind ≡ g.kind
 kind_at p = ap (λ (f : Entry). f.kind) p
+
+-- the kind that has a number
+numbered : ℕ → Kind
+numbered n = get_or (Step ∷ Compose ∷ Union ∷ Intersect ∷ Except ∷ Filter ∷ Variable ∷ Root ∷ Exists ∷ Not ∷ And ∷ Or ∷ Is ∷ Star ∷ []) n Same
+
+numbered_back : (k : Kind) → numbered (kind_number k) ≡ k
+unfolding numbered
+numbered_back Step = refl
+numbered_back Compose = refl
+numbered_back Union = refl
+numbered_back Intersect = refl
+numbered_back Except = refl
+numbered_back Filter = refl
+numbered_back Variable = refl
+numbered_back Root = refl
+numbered_back Exists = refl
+numbered_back Not = refl
+numbered_back And = refl
+numbered_back Or = refl
+numbered_back Is = refl
+numbered_back Star = refl
+numbered_back Same = refl
+
+-- a kind that is not v has another number than v
+pub other_kind : {k v : Kind} {n : ℕ} → (k ≡ v → ⊥) → kind_number k ≡ n → n ≡ kind_number v → ⊥
+other_kind {k} {v} h p q = h (sym (numbered_back k) ∙ ap numbered (p ∙ q) ∙ numbered_back v)
+
+-- a kind that is v or w has the number of v or of w
+pub one_kind : {k v w : Kind} {n : ℕ} → (k ≡ v) ⊎ (k ≡ w) → kind_number k ≡ n → (n ≡ kind_number v) ⊎ (n ≡ kind_number w)
+one_kind (inl e) h = inl (sym h ∙ ap kind_number e)
+one_kind (inr e) h = inr (sym h ∙ ap kind_number e)
+
+-- the operation of a union, an intersect or an except is its number less 2
+joined_by : (k : Kind) → 2 ≤ kind_number k → kind_number k ≤ 4 → operation_number (operation_of k) ≡ kind_number k - 2
+joined_by Union a b = refl
+joined_by Intersect a b = refl
+joined_by Except a b = refl
+joined_by k a b = omega arith
+
+pub operation_by : (k : Kind) {n : ℕ} {op : Operation} → op ≡ operation_of k → kind_number k ≡ n → 2 ≤ n → n ≤ 4 → operation_number op ≡ n - 2
+operation_by k e h a b = rw (e, ← h) (joined_by k (rw h a) (rw h b))
+
+-- two operands in their order, or turned
+
+pub turned : {p : ℕ × ℕ} {b : Bool} {x y : ℕ} → p ≡ (y, x) → b ≡ true → (p.0 ≡ cond b y x) × (p.1 ≡ cond b x y)
+turned e h = rw (e, h) (refl, refl)
+
+pub straight : {p : ℕ × ℕ} {b : Bool} {x y : ℕ} → p ≡ (x, y) → b ≡ false → (p.0 ≡ cond b y x) × (p.1 ≡ cond b x y)
+straight e h = rw (e, h) (refl, refl)
 
 -- l is an operand of entry e: an earlier entry, a path where the flag is set, else a node expression
 pub record Operand (q : List ℕ) (e l : ℕ) (path : Bool) : Type 0 where

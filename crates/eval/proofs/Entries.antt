@@ -10,6 +10,9 @@ use lib.ListN.{get_or}
 use lib.Dec.{ltb}
 use borrow.Author.Tests.{le-ltb}
 use Rattle.model.specs.declared.Entry.{Entry}
+use Rattle.model.specs.declared.kind.Kind.{Kind}
+use Rattle.model.specs.declared.kind.Kind.TheVariants.{And, Or}
+use Rattle.model.specs.Numbers.{kind_number}
 use Rattle.model.specs.Sets.{any, tab, ones, memb, upto, turn, closed, image}
 use Rattle.model.specs.Tree.{tree_of, size_of}
 use Rattle.model.specs.Axes.{steps}
@@ -25,9 +28,10 @@ use Rattle.model.proofs.Bytes.{tab_cong, memb_yes, memb_no, memb_tab}
 use Rattle.model.proofs.Counts.{ones_bytes, ones_one}
 use Rattle.model.proofs.QueryTable.{at_step, at_compose, at_union, at_intersect, at_except, at_filter, at_variable, at_root, at_exists, at_negate, at_both, at_either, at_is, at_closure, at_same}
 use Rattle.model.proofs.Closure.{closed_turn}
-use Rattle.sets.specs.NodeSets.{always, only, combine, combination}
+use Rattle.sets.specs.declared.Operation.{Operation}
+use Rattle.sets.specs.NodeSets.{always, only, operation_number, combine, combination}
 use Rattle.sets.proofs.Images.{memb_upto, upto_cong, only_upto, combine_upto, trim_upto, image_cong, image_from, image_turned, image_compose, image_or, image_keep, image_kept, image_all, image_one}
-use Rattle.eval.specs.Evaluation.{Ready, passing, passed, reached, row, joined, ending}
+use Rattle.eval.specs.Evaluation.{Ready, passing, passed, reached, row, joined, operation_of, ending}
 use Rattle.model.proofs.KindTests.{path_on_left, path_on_right}
 use Rattle.eval.proofs.Calls.{left_path_lem, right_path_lem, left_expr_lem, right_expr_lem, variable_small}
 
@@ -85,9 +89,9 @@ module _ {t v q nodes : List ℕ} {e : ℕ} {f : Entry} (fe : f ≡ entry q e) (
 
   -- paths
 
-  pub did_step : (b : Bool) (s o : List ℕ) → o ≡ tab 256 (image (size_of t) (turn b (steps (tree_of t) f.left f.tag)) (memb s)) → f.kind ≡ 0 → o ≡ reached t q nodes e b s
+  pub did_step : (b : Bool) (a : ℕ) (s o : List ℕ) → o ≡ tab 256 (image (size_of t) (turn b (steps (tree_of t) a f.tag)) (memb s)) → a ≡ f.left → f.kind ≡ 0 → o ≡ reached t q nodes e b s
   unfolding pairs_over
-  did_step b s o p h = p ∙ rw fe (as_path t q nodes e b s (step (left q e) (tag q e)) (at_step q e (rw fe at h)))
+  did_step b a s o p l h = p ∙ rw (l, fe) (as_path t q nodes e b s (step (left q e) (tag q e)) (at_step q e (rw fe at h)))
 
   pub is_compose : f.kind ≡ 1 → path_at q e ≡ compose (path_at q f.left) (path_at q f.right)
   unfolding left_path right_path
@@ -234,13 +238,17 @@ module _ {t v q nodes : List ℕ} {e : ℕ} {f : Entry} (fe : f ≡ entry q e) (
   unfolding passed passing left_expr holds_over combine
   did_negate m n o p a c h = p ∙ rw (a, c, fe) (combine_upto (size_of t) (small ok) 2 (always true) _ ∙ as_expr t q nodes e (negate (expr_at q (left q e))) (at_negate q e (rw fe at h) (expr_left fe ok em (rw h))))
 
-  pub did_both : (m n o : List ℕ) → o ≡ tab 256 (combination 1 m n) → m ≡ passed t q nodes f.left → n ≡ passed t q nodes f.right → f.kind ≡ 10 → o ≡ passed t q nodes e
+  did_both : (m n o : List ℕ) → o ≡ tab 256 (combination 1 m n) → m ≡ passed t q nodes f.left → n ≡ passed t q nodes f.right → f.kind ≡ 10 → o ≡ passed t q nodes e
   unfolding passed passing left_expr right_expr holds_over combine
   did_both m n o p a c h = p ∙ rw (a, c, fe) (combine_upto (size_of t) (small ok) 1 _ _ ∙ as_expr t q nodes e (both (expr_at q (left q e)) (expr_at q (right q e))) (at_both q e (rw fe at h) (expr_left fe ok em (rw h)) (expr_right fe ok em (rw h))))
 
-  pub did_either : (m n o : List ℕ) → o ≡ tab 256 (combination 0 m n) → m ≡ passed t q nodes f.left → n ≡ passed t q nodes f.right → f.kind ≡ 11 → o ≡ passed t q nodes e
+  did_either : (m n o : List ℕ) → o ≡ tab 256 (combination 0 m n) → m ≡ passed t q nodes f.left → n ≡ passed t q nodes f.right → f.kind ≡ 11 → o ≡ passed t q nodes e
   unfolding passed passing left_expr right_expr holds_over combine
   did_either m n o p a c h = p ∙ rw (a, c, fe) (combine_upto (size_of t) (small ok) 0 _ _ ∙ as_expr t q nodes e (either (expr_at q (left q e)) (expr_at q (right q e))) (at_either q e (rw fe at h) (expr_left fe ok em (rw h)) (expr_right fe ok em (rw h))))
+
+  pub did_joined : {k : Kind} {op : Operation} (m n o : List ℕ) → o ≡ tab 256 (combination (operation_number op) m n) → op ≡ operation_of k → kind_number k ≡ f.kind → (k ≡ And) ⊎ (k ≡ Or) → m ≡ passed t q nodes f.left → n ≡ passed t q nodes f.right → o ≡ passed t q nodes e
+  did_joined m n o p z h (inl x) a c = did_both m n o (rw (z, x) at p) a c (sym h ∙ ap kind_number x)
+  did_joined m n o p z h (inr x) a c = did_either m n o (rw (z, x) at p) a c (sym h ∙ ap kind_number x)
 
   pub did_is : (o : List ℕ) → o ≡ tab 256 (only (assigned nodes f.left)) → assigned nodes f.left < size_of t → f.kind ≡ 12 → o ≡ passed t q nodes e
   unfolding holds_over

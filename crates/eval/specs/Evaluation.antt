@@ -1,5 +1,7 @@
 -- What the evaluator asks for, and what it gives: node sets as 256 bytes.
 use Rattle.std.specs.Prelude.{ℕ, ◌-◌, ◌≤◌, ◌<◌, ◌≡◌, Bool, List}
+use Rattle.model.specs.declared.Call.{Call}
+use Rattle.model.specs.declared.kind.Kind.{Kind}
 use Rattle.model.specs.Sets.{tab, memb, upto, image}
 use Rattle.model.specs.Tree.{tree_of, size_of}
 use Rattle.model.specs.Meaning.{holds}
@@ -7,6 +9,7 @@ use Rattle.model.specs.QueryTable.{entries_of, kind, left, right, expr_at}
 use Rattle.model.specs.Kinds.{is_path}
 use Rattle.model.specs.Results.{assigned, related}
 use Rattle.model.specs.Accepted.{Evaluable}
+use Rattle.sets.specs.declared.Operation.{Operation}
 use Rattle.sets.specs.NodeSets.{combination}
 use Rattle.steps.specs.Moves.{Linked}
 
@@ -47,6 +50,44 @@ unfoldable pub joined : List ℕ → List ℕ → List ℕ → ℕ → Bool → 
 joined t q nodes e back s =
     tab 256 (combination (kind q e - 2) (reached t q nodes (left q e) back s) (reached t q nodes (right q e) back s))
 
+-- how the operands of an entry of a kind are combined: of a union and an `or`, of an intersect and an `and`, and else as of an except
+abbrev pub operation_of : Kind → Operation
+operation_of Kind.Union = Operation.Union
+operation_of Kind.Or = Operation.Union
+operation_of Kind.Intersect = Operation.Intersection
+operation_of Kind.And = Operation.Intersection
+operation_of k = Operation.Difference
+
 -- the pairs that end in a set, whatever node they start from
 abbrev pub ending : List ℕ → ℕ → ℕ → Bool
 ending to x y = memb to y
+
+-- the same of what an evaluation is lent
+
+-- the tree has its links, and the query can be evaluated over it
+abbrev pub ReadyFor : Call → Type 0
+ReadyFor c = Ready c.tree.now c.prev.now c.query.now c.nodes.now
+
+-- entry e is one of the query's, of a kind from low to high
+abbrev pub KindIn : Call → ℕ → ℕ → ℕ → Type 0
+KindIn c e low high = OfKind c.query.now e low high
+
+-- entry e is one of the query's: a path where the flag is set, else a node expression
+abbrev pub SortIn : Call → ℕ → Bool → Type 0
+SortIn c e path = Sorted c.query.now e path
+
+-- the nodes where the node expression at entry e holds
+abbrev pub passed_for : Call → ℕ → List ℕ
+passed_for c e = passed c.tree.now c.query.now c.nodes.now e
+
+-- what the set s reaches by the path at entry e, or what reaches it where back is set
+abbrev pub reached_for : Call → ℕ → Bool → List ℕ → List ℕ
+reached_for c e back s = reached c.tree.now c.query.now c.nodes.now e back s
+
+-- what the node x alone reaches by it
+abbrev pub row_for : Call → ℕ → Bool → ℕ → List ℕ
+row_for c e back x = row c.tree.now c.query.now c.nodes.now e back x
+
+-- what s reaches by the two operands of entry e, combined by its kind
+abbrev pub joined_for : Call → ℕ → Bool → List ℕ → List ℕ
+joined_for c e back s = joined c.tree.now c.query.now c.nodes.now e back s

@@ -7,14 +7,19 @@
 // `nesting`, `engines`). Sets travel by value, so that a level of calls takes a few KiB of stack, and a query has at most 64 levels.
 //
 // Each evaluation tells how many nodes its result has, in a number that it is lent: a set is counted where it is made, and one that
-// is handed on keeps its count. What an operand tells is overwritten.
+// is handed on keeps its count. What an operand tells is overwritten. The number is lent, and not returned beside the set: a set that is
+// part of a pair is copied once more where it is handed on, each copy has its place in a frame, and include/geznauri.h promises how much
+// stack a level of calls takes.
 #![tactic(auto)]
 
-ghost use Rattle.std.specs.Prelude.{◌≡◌, true, false, cond, ◌≤◌, ◌<◌, length};
+ghost use Rattle.std.specs.Prelude.{◌≡◌, true, false, ◌≤◌, ◌<◌, length};
 ghost use Rattle.model.specs.Sets.{tab, ones, memb, upto, turn, image};
 ghost use Rattle.model.specs.Results.{assigned};
 ghost use Rattle.sets.specs.NodeSets.{only};
-ghost use Rattle.eval.specs.Evaluation.{Ready, OfKind, Sorted, passed, reached, row, joined, ending};
+ghost use Rattle.eval.specs.Evaluation.{ReadyFor, KindIn, SortIn, passed_for, reached_for, row_for, joined_for, operation_of, ending};
+
+use model::{Call, Kind};
+use sets::Operation;
 
 // The node of variable k, as a set.
 fn variable(nodes: &[u16], k: usize) -> [u8; 256]
@@ -39,7 +44,7 @@ fn ending_image(
         × (count.new ≡ ones result) }
 {
     if back {
-        let hits = sets::combined(sets::INTERSECTION, from, to);
+        let hits = sets::combined(Operation::Intersection, from, to);
         let hit = sets::occupied(n, hits);
         let all = sets::full_if(hit, n);
         *count = sets::count_of(all);
@@ -49,233 +54,186 @@ fn ending_image(
     if some {
         // The set made anew: returned as it was lent, it would be moved by memmove, which the archive has no other need of.
         let all = sets::full(n);
-        return sets::combined(sets::INTERSECTION, all, to);
+        return sets::combined(Operation::Intersection, all, to);
     }
     *count = 0;
     sets::full(0)
 }
 
-// x if b, else y.
-fn choose(b: bool, x: usize, y: usize) -> usize
-    ensures { result ≡ cond b x y }
+// How the operands of an entry of a kind are combined.
+fn operation(kind: Kind) -> Operation
+    ensures { result ≡ operation_of kind }
 {
-    if b { x } else { y }
+    match kind {
+        Kind::Union | Kind::Or => Operation::Union,
+        Kind::Intersect | Kind::And => Operation::Intersection,
+        _ => Operation::Difference,
+    }
 }
 
 // What a set reaches by the path at entry e, or what reaches the set where back is set. Of a composition the operand at the
-// side of the set goes first. The test of a filter holds at the end node: forwards it cuts the image, backwards the set.
-#[cycle(by_rows_ends_node_operands_path_same_star)]
-pub fn path(
-    tree: &[u16],
-    prev: &[u16],
-    query: &[u16],
-    nodes: &[u16],
-    e: usize,
-    back: bool,
-    from: [u8; 256],
-    count: &mut usize,
-) -> [u8; 256]
-    requires { Ready tree.now prev.now query.now nodes.now × Sorted query.now e true }
-    ensures { (result ≡ reached tree.now query.now nodes.now e back from)
-        × (count.new ≡ ones result) }
+// side of the set goes first.
+#[cycle(evaluation)]
+pub fn path(call: &Call, e: usize, back: bool, from: [u8; 256], count: &mut usize) -> [u8; 256]
+    requires { ReadyFor call.now × SortIn call.now e true }
+    ensures { (result ≡ reached_for call.now e back from) × (count.new ≡ ones result) }
 {
-    let f = query::entry_at(query, e);
-    let k = f.kind;
-    let l = f.left;
-    let r = f.right;
-    if k == 0 {
-        return steps::step(tree, prev, l, f.tag, back, from, count);
-    }
-    if k == 1 {
-        let first = choose(back, r, l);
-        let second = choose(back, l, r);
-        let m = path(tree, prev, query, nodes, first, back, from, count);
-        return path(tree, prev, query, nodes, second, back, m, count);
-    }
-    if k == 2 {
-        return operands(tree, prev, query, nodes, e, back, from, count);
-    }
-    if k < 5 {
-        return by_rows(tree, prev, query, nodes, e, back, from, count);
-    }
-    if k == 5 {
-        let s = node(tree, prev, query, nodes, r, count);
-        if back {
-            let m = sets::combined(sets::INTERSECTION, from, s);
-            return path(tree, prev, query, nodes, l, back, m, count);
+    let f = query::entry_at(call.query, e);
+    match model::kind_of(f.kind) {
+        Kind::Step => {
+            let axis = model::axis_of(f.left);
+            steps::step(call.tree, call.prev, axis, f.tag, back, from, count)
         }
-        let m = path(tree, prev, query, nodes, l, back, from, count);
-        return sets::combined_counted(sets::INTERSECTION, m, s, count);
+        Kind::Compose => {
+            let (first, second) = if back {
+                (f.right, f.left)
+            } else {
+                (f.left, f.right)
+            };
+            let m = path(call, first, back, from, count);
+            path(call, second, back, m, count)
+        }
+        Kind::Union => operands(call, e, back, from, count),
+        Kind::Intersect | Kind::Except => by_rows(call, e, back, from, count),
+        Kind::Filter => filter(call, e, back, from, count),
+        Kind::Star => star(call, e, back, from, count),
+        Kind::Variable | Kind::Root => {
+            let to = ends(call, e, count);
+            ending_image(call.tree.len() / 2, to, back, from, count)
+        }
+        _ => unreachable!(),
     }
-    if k == 13 {
-        return star(tree, prev, query, nodes, e, back, from, count);
-    }
-    let to = ends(tree, prev, query, nodes, e, count);
-    ending_image(tree.len() / 2, to, back, from, count)
 }
 
 // The nodes where the node expression at entry e holds.
-#[cycle(by_rows_ends_node_operands_path_same_star)]
-pub fn node(
-    tree: &[u16],
-    prev: &[u16],
-    query: &[u16],
-    nodes: &[u16],
-    e: usize,
-    count: &mut usize,
-) -> [u8; 256]
-    requires { Ready tree.now prev.now query.now nodes.now × Sorted query.now e false }
-    ensures { (result ≡ passed tree.now query.now nodes.now e)
-        × (count.new ≡ ones result) }
+#[cycle(evaluation)]
+pub fn node(call: &Call, e: usize, count: &mut usize) -> [u8; 256]
+    requires { ReadyFor call.now × SortIn call.now e false }
+    ensures { (result ≡ passed_for call.now e) × (count.new ≡ ones result) }
 {
-    let n = tree.len() / 2;
-    let f = query::entry_at(query, e);
-    let k = f.kind;
-    let l = f.left;
-    let r = f.right;
-    if k == 8 {
-        let all = sets::full(n);
-        return path(tree, prev, query, nodes, l, true, all, count);
+    let n = call.tree.len() / 2;
+    let f = query::entry_at(call.query, e);
+    let kind = model::kind_of(f.kind);
+    match kind {
+        Kind::Exists => {
+            let all = sets::full(n);
+            path(call, f.left, true, all, count)
+        }
+        Kind::Not => {
+            let all = sets::full(n);
+            let a = node(call, f.left, count);
+            sets::combined_counted(Operation::Difference, all, a, count)
+        }
+        Kind::And | Kind::Or => {
+            let a = node(call, f.left, count);
+            let b = node(call, f.right, count);
+            sets::combined_counted(operation(kind), a, b, count)
+        }
+        Kind::Is => {
+            *count = 1;
+            variable(call.nodes, f.left)
+        }
+        Kind::Same => same(call, e, count),
+        _ => unreachable!(),
     }
-    if k == 9 {
-        let all = sets::full(n);
-        let a = node(tree, prev, query, nodes, l, count);
-        return sets::combined_counted(sets::DIFFERENCE, all, a, count);
+}
+
+// A filter. Its test holds at the end node: forwards it cuts the image, backwards the set. It has a frame of its own, as operands has.
+#[cycle(evaluation)]
+#[inline(never)]
+fn filter(call: &Call, e: usize, back: bool, from: [u8; 256], count: &mut usize) -> [u8; 256]
+    requires { ReadyFor call.now × KindIn call.now e 5 5 }
+    ensures { (result ≡ reached_for call.now e back from) × (count.new ≡ ones result) }
+{
+    let f = query::entry_at(call.query, e);
+    let s = node(call, f.right, count);
+    if back {
+        let m = sets::combined(Operation::Intersection, from, s);
+        return path(call, f.left, back, m, count);
     }
-    if k == 12 {
-        *count = 1;
-        return variable(nodes, l);
-    }
-    if k == 14 {
-        return same(tree, prev, query, nodes, e, count);
-    }
-    let a = node(tree, prev, query, nodes, l, count);
-    let b = node(tree, prev, query, nodes, r, count);
-    if k == 10 {
-        return sets::combined_counted(sets::INTERSECTION, a, b, count);
-    }
-    sets::combined_counted(sets::UNION, a, b, count)
+    let m = path(call, f.left, back, from, count);
+    sets::combined_counted(Operation::Intersection, m, s, count)
 }
 
 // What a set reaches by each operand of a union, intersect or except, combined so. For a union that is what the set
 // reaches by the entry itself; for the others it is only where the set has one node. It has a frame of its own, so that a level of
 // `path` without it takes less stack.
-#[cycle(by_rows_ends_node_operands_path_same_star)]
+#[cycle(evaluation)]
 #[inline(never)]
-fn operands(
-    tree: &[u16],
-    prev: &[u16],
-    query: &[u16],
-    nodes: &[u16],
-    e: usize,
-    back: bool,
-    from: [u8; 256],
-    count: &mut usize,
-) -> [u8; 256]
-    requires { Ready tree.now prev.now query.now nodes.now × OfKind query.now e 2 4 }
-    ensures { (result ≡ joined tree.now query.now nodes.now e back from)
-        × (count.new ≡ ones result) }
+fn operands(call: &Call, e: usize, back: bool, from: [u8; 256], count: &mut usize) -> [u8; 256]
+    requires { ReadyFor call.now × KindIn call.now e 2 4 }
+    ensures { (result ≡ joined_for call.now e back from) × (count.new ≡ ones result) }
 {
-    let f = query::entry_at(query, e);
-    let k = f.kind;
-    let l = f.left;
-    let r = f.right;
-    let a = path(tree, prev, query, nodes, l, back, from, count);
-    let b = path(tree, prev, query, nodes, r, back, from, count);
-    let op = (k - 2) as u8;
+    let f = query::entry_at(call.query, e);
+    let a = path(call, f.left, back, from, count);
+    let b = path(call, f.right, back, from, count);
+    let op = operation(model::kind_of(f.kind));
     sets::combined_counted(op, a, b, count)
 }
 
 // An intersect or except, one start node after the other.
-#[cycle(by_rows_ends_node_operands_path_same_star)]
-fn by_rows(
-    tree: &[u16],
-    prev: &[u16],
-    query: &[u16],
-    nodes: &[u16],
-    e: usize,
-    back: bool,
-    from: [u8; 256],
-    count: &mut usize,
-) -> [u8; 256]
-    requires { Ready tree.now prev.now query.now nodes.now × OfKind query.now e 3 4 }
-    ensures { (result ≡ reached tree.now query.now nodes.now e back from)
-        × (count.new ≡ ones result) }
+#[cycle(evaluation)]
+fn by_rows(call: &Call, e: usize, back: bool, from: [u8; 256], count: &mut usize) -> [u8; 256]
+    requires { ReadyFor call.now × KindIn call.now e 3 4 }
+    ensures { (result ≡ reached_for call.now e back from) × (count.new ≡ ones result) }
 {
-    let n = tree.len() / 2;
+    let n = call.tree.len() / 2;
     let mut found = sets::full(0);
-    let mut x = 0;
-    while x < n {
+    for x in 0..n {
         if from[x] != 0 {
             let s = sets::single(x);
-            let row = operands(tree, prev, query, nodes, e, back, s, count);
-            let next = sets::combined(sets::UNION, found, row);
+            let row = operands(call, e, back, s, count);
+            let next = sets::combined(Operation::Union, found, row);
             found = next;
         }
-        x += 1;
     }
     *count = sets::count_of(found);
     found
 }
 
 // The nodes at which a variable or a path from the root ends, from any start. It has a frame of its own, as operands has.
-#[cycle(by_rows_ends_node_operands_path_same_star)]
+#[cycle(evaluation)]
 #[inline(never)]
-fn ends(
-    tree: &[u16],
-    prev: &[u16],
-    query: &[u16],
-    nodes: &[u16],
-    e: usize,
-    count: &mut usize,
-) -> [u8; 256]
-    requires { Ready tree.now prev.now query.now nodes.now × OfKind query.now e 6 7 }
-    ensures { (result ≡ row tree.now query.now nodes.now e false 0)
-        × (count.new ≡ ones result) }
+fn ends(call: &Call, e: usize, count: &mut usize) -> [u8; 256]
+    requires { ReadyFor call.now × KindIn call.now e 6 7 }
+    ensures { (result ≡ row_for call.now e false 0) × (count.new ≡ ones result) }
 {
-    let f = query::entry_at(query, e);
-    let k = f.kind;
-    let l = f.left;
-    if k == 6 {
-        *count = 1;
-        return variable(nodes, l);
+    let f = query::entry_at(call.query, e);
+    match model::kind_of(f.kind) {
+        Kind::Variable => {
+            *count = 1;
+            variable(call.nodes, f.left)
+        }
+        Kind::Root => {
+            let root = sets::single(0);
+            path(call, f.left, false, root, count)
+        }
+        _ => unreachable!(),
     }
-    let root = sets::single(0);
-    path(tree, prev, query, nodes, l, false, root, count)
 }
 
 // A star: from the nodes found last the operand is followed on, until it finds none that is new. At most n rounds, since each but the last
 // finds a node more, and each node is followed from once.
-#[cycle(by_rows_ends_node_operands_path_same_star)]
-fn star(
-    tree: &[u16],
-    prev: &[u16],
-    query: &[u16],
-    nodes: &[u16],
-    e: usize,
-    back: bool,
-    from: [u8; 256],
-    count: &mut usize,
-) -> [u8; 256]
-    requires { Ready tree.now prev.now query.now nodes.now × OfKind query.now e 13 13 }
-    ensures { (result ≡ reached tree.now query.now nodes.now e back from)
-        × (count.new ≡ ones result) }
+#[cycle(evaluation)]
+fn star(call: &Call, e: usize, back: bool, from: [u8; 256], count: &mut usize) -> [u8; 256]
+    requires { ReadyFor call.now × KindIn call.now e 13 13 }
+    ensures { (result ≡ reached_for call.now e back from) × (count.new ≡ ones result) }
 {
-    let n = tree.len() / 2;
-    let f = query::entry_at(query, e);
+    let n = call.tree.len() / 2;
+    let f = query::entry_at(call.query, e);
     let l = f.left;
     let all = sets::full(n);
-    let mut known = sets::combined(sets::INTERSECTION, all, from);
+    let mut known = sets::combined(Operation::Intersection, all, from);
     let mut last = known;
     loop {
-        let next = path(tree, prev, query, nodes, l, back, last, count);
-        let fresh = sets::combined(sets::DIFFERENCE, next, known);
+        let next = path(call, l, back, last, count);
+        let fresh = sets::combined(Operation::Difference, next, known);
         let more = sets::occupied(n, fresh);
         if !more {
             *count = sets::count_of(known);
             return known;
         }
-        let grown = sets::combined(sets::UNION, known, fresh);
+        let grown = sets::combined(Operation::Union, known, fresh);
         known = grown;
         last = fresh;
     }
@@ -283,33 +241,21 @@ fn star(
 
 // The nodes from which both operands of a `same` reach some one node: one start node after the other, since from more than one
 // they might reach it from different ones.
-#[cycle(by_rows_ends_node_operands_path_same_star)]
-fn same(
-    tree: &[u16],
-    prev: &[u16],
-    query: &[u16],
-    nodes: &[u16],
-    e: usize,
-    count: &mut usize,
-) -> [u8; 256]
-    requires { Ready tree.now prev.now query.now nodes.now × OfKind query.now e 14 14 }
-    ensures { (result ≡ passed tree.now query.now nodes.now e)
-        × (count.new ≡ ones result) }
+#[cycle(evaluation)]
+fn same(call: &Call, e: usize, count: &mut usize) -> [u8; 256]
+    requires { ReadyFor call.now × KindIn call.now e 14 14 }
+    ensures { (result ≡ passed_for call.now e) × (count.new ≡ ones result) }
 {
-    let n = tree.len() / 2;
-    let f = query::entry_at(query, e);
-    let l = f.left;
-    let r = f.right;
+    let n = call.tree.len() / 2;
+    let f = query::entry_at(call.query, e);
     let mut starts = sets::full(0);
-    let mut x = 0;
-    while x < n {
+    for x in 0..n {
         let start = sets::single(x);
-        let a = path(tree, prev, query, nodes, l, false, start, count);
-        let b = path(tree, prev, query, nodes, r, false, start, count);
-        let met = sets::combined(sets::INTERSECTION, a, b);
+        let a = path(call, f.left, false, start, count);
+        let b = path(call, f.right, false, start, count);
+        let met = sets::combined(Operation::Intersection, a, b);
         let some = sets::occupied(n, met);
         starts[x] = sets::byte(some);
-        x += 1;
     }
     *count = sets::count_of(starts);
     starts

@@ -36,7 +36,7 @@ elem_from x k (suc n) =
             let d : x ≡ k → ⊥ = borrow.Author.Tests.eqb-false x k p in
             or_right (eqb x k) (leb (suc k) x && ltb x (suc k + n)) (both_yes (le-leb (suc k) x (omega arith)) (lt-ltb x (suc k + n) (omega arith)))
 
-pub name_byte : (b : ℕ) → ((leb 97 b && ltb b 123) || ((leb 65 b && ltb b 91) || ((leb 48 b && ltb b 58) || (eqb b 45 || eqb b 95)))) ≡ elem b name_bytes
+name_byte : (b : ℕ) → ((leb 97 b && ltb b 123) || ((leb 65 b && ltb b 91) || ((leb 48 b && ltb b 58) || (eqb b 45 || eqb b 95)))) ≡ elem b name_bytes
 unfolding name_bytes elem
 name_byte b =
     sym (elem_append b (from 97 26) (from 65 26 ++ (from 48 10 ++ ascii "-_"))
@@ -48,3 +48,11 @@ name_byte b =
     ends true q = refl
     ends false true = refl
     ends false false = refl
+
+-- the same by the last of each range
+pub name_byte_within : (b : ℕ) → ((leb 97 b && leb b 122) || ((leb 65 b && leb b 90) || ((leb 48 b && leb b 57) || (eqb b 45 || eqb b 95)))) ≡ elem b name_bytes
+name_byte_within b = rw (below b 122, below b 90, below b 57) (name_byte b)
+  where
+    below : (x k : ℕ) → leb x k ≡ ltb x (suc k)
+    below x k =
+        bool_ext (leb x k) (ltb x (suc k)) (λ h. let l = leb-true x k h in lt-ltb x (suc k) (omega arith)) (λ h. let l = ltb-true x (suc k) h in le-leb x k (omega arith))

@@ -8,8 +8,8 @@ ghost use Rattle.grammar.specs.Grammar.{elem, name_bytes};
 pub fn is_name_byte(b: u8) -> bool
     ensures { result ≡ elem b name_bytes }
 {
-    let small = (97 <= b) & (b < 123);
-    let capital = (65 <= b) & (b < 91);
-    let digit = (48 <= b) & (b < 58);
-    small | (capital | (digit | ((b == 45) | (b == 95))))
+    let small = (b'a' <= b) & (b <= b'z');
+    let capital = (b'A' <= b) & (b <= b'Z');
+    let digit = (b'0' <= b) & (b <= b'9');
+    small | (capital | (digit | ((b == b'-') | (b == b'_'))))
 }

@@ -3,21 +3,23 @@
 use Prim.Native.Nat.{ℕ, ◌+◌, ◌-◌, ◌*◌, ◌<◌, ◌≤◌}
 use native.Mathlib.Nat.{mul-le-mul_right}
 use native.Mathlib.Omega.{arith}
-use mathlib.Core.Path.{◌≡◌, sym, ap, ◌∙◌}
+use mathlib.Core.Path.{◌≡◌, refl, sym, ap, ◌∙◌}
 use mathlib.Core.Bool.{Bool, true, false}
 use mathlib.Core.List.{List, ◌++◌, append_assoc, append-nil}
 use lib.ListN.{length, take, drop, length-drop, drop_of_length-le}
 use lib.Seq.{take_at, take_all, drop_at, drop-drop}
 use borrow.Author.Tests.{lt-ltb}
-use Rattle.model.specs.declared.Reply.{Reply}
+use Rattle.model.specs.declared.refusal.Refusal.{Refusal}
 use Rattle.model.specs.Sets.{tab, ones, memb, upto, image}
 use Rattle.model.specs.Tree.{tree_of, size_of}
 use Rattle.model.specs.QueryTable.{last_of}
 use Rattle.model.specs.Results.{related, image_bytes, cell, pairs_bytes}
-use Rattle.model.specs.Refusals.{written}
+use Rattle.model.specs.Refusals.{reply, refused, counting, verdict}
+use Rattle.model.specs.Checks.{image_checks, pairs_checks}
+use Rattle.model.specs.Services.{ImageLeaves, PairsLeave}
 use Rattle.model.proofs.Bytes.{tab_append, tab_cong, length_tab, length_over, tab_front, row_fits, cell_at}
 use Rattle.model.proofs.Counts.{ones_front}
-use Rattle.model.proofs.Refusals.{written_over}
+use Rattle.model.proofs.Refusals.{counts_none, counts_some, written_not, written_over, refused_some}
 use Rattle.sets.specs.NodeSets.{only}
 use Rattle.sets.proofs.Images.{memb_upto, image_one, image_from}
 use Rattle.eval.specs.Evaluation.{reached}
@@ -77,14 +79,28 @@ pub image_counted : (t q nodes : List ℕ) (back : Bool) (from s r : List ℕ) (
 unfolding reached image
 image_counted t q nodes back from s r k p a c l fits = p ∙ ones_front (size_of t) _ r a fits ∙ ap ones (front t q nodes back from s r a c l fits)
 
-pub image_over_lem : (t q nodes : List ℕ) (back : Bool) (from to after : List ℕ) (r v : Reply) → after ≡ image_bytes t q nodes back from ++ drop (size_of t) to → r ≡ v → r.number ≡ 0
-    → after ≡ written v (image_bytes t q nodes back from) to
-unfolding image_bytes
-image_over_lem t q nodes back from to after r v a p z = written_over r v (image_bytes t q nodes back from) to after (size_of t) a p z (length_tab (size_of t) _)
+-- what a service leaves: refused, or with its set or table at the front
 
-pub pairs_over_lem : (t q nodes to after : List ℕ) (r v : Reply) → after ≡ pairs_bytes t q nodes ++ drop (size_of t * size_of t) to → r ≡ v → r.number ≡ 0 → after ≡ written v (pairs_bytes t q nodes) to
-unfolding pairs_bytes
-pairs_over_lem t q nodes to after r v a p z = written_over r v (pairs_bytes t q nodes) to after (size_of t * size_of t) a p z (length_tab (size_of t * size_of t) _)
+module _ (t q : List ℕ) (columns : ℕ) (nodes : List ℕ) where
+  pub image_refused : (e : Refusal) (back : Bool) (from to : List ℕ) → refused e ≡ verdict (image_checks t q columns nodes from (length to))
+      → ImageLeaves t q columns nodes back from to (counting (refused e) 0) to
+  image_refused e back from to p = (counts_none _ (refused e) _ p _ refl (refused_some e), written_not (refused e) _ _ _ p (refused_some e))
+
+  pub image_made : (back : Bool) (from to after : List ℕ) (k : ℕ) → reply 0 0 ≡ verdict (image_checks t q columns nodes from (length to))
+      → k ≡ ones (image_bytes t q nodes back from) → after ≡ image_bytes t q nodes back from ++ drop (size_of t) to
+      → ImageLeaves t q columns nodes back from to (counting (reply 0 0) k) after
+  unfolding image_bytes
+  image_made back from to after k p e a =
+      (counts_some _ (reply 0 0) _ p _ _ refl e refl, written_over (reply 0 0) _ (image_bytes t q nodes back from) to after (size_of t) a p refl (length_tab (size_of t) _))
+
+  pub pairs_refused : (e : Refusal) (to : List ℕ) → refused e ≡ verdict (pairs_checks t q columns nodes (length to)) → PairsLeave t q columns nodes to (refused e) to
+  pairs_refused e to p = (p, written_not (refused e) _ _ _ p (refused_some e))
+
+  pub pairs_made : (to after : List ℕ) → reply 0 0 ≡ verdict (pairs_checks t q columns nodes (length to))
+      → after ≡ pairs_bytes t q nodes ++ drop (size_of t * size_of t) to → PairsLeave t q columns nodes to (reply 0 0) after
+  unfolding pairs_bytes
+  pairs_made to after p a =
+      (p, written_over (reply 0 0) _ (pairs_bytes t q nodes) to after (size_of t * size_of t) a p refl (length_tab (size_of t * size_of t) _))
 
 -- the part of a slice from a place to its end, put back
 pub put_back : (a n : ℕ) (xs ys r : List ℕ) → ys ≡ tab n (memb r) ++ drop n (take (length xs - a) (drop a xs))

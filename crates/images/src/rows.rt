@@ -8,6 +8,8 @@ ghost use Rattle.model.specs.Results.{related, pairs_bytes};
 ghost use Rattle.steps.specs.Moves.{Linked};
 ghost use Rattle.checks.specs.Tables.{Tables};
 
+use model::Call;
+
 // The first n bytes from a place on become the set's; the others stay.
 fn put_row(table: &mut [u8], r: [u8; 256], at: usize, n: usize)
     requires { (n ≤ 256) × (at + n ≤ length table.old) }
@@ -18,24 +20,17 @@ fn put_row(table: &mut [u8], r: [u8; 256], at: usize, n: usize)
 }
 
 // The nodes that x alone reaches by the query.
-fn row(tree: &[u16], prev: &[u16], query: &[u16], nodes: &[u16], x: usize) -> [u8; 256]
-    requires { Tables tree.now query.now nodes.now × (Linked tree.now prev.now × (x < size_of tree.now)) }
+fn row(call: &Call, x: usize) -> [u8; 256]
+    requires { Tables call.now.tree.now call.now.query.now call.now.nodes.now
+        × (Linked call.now.tree.now call.now.prev.now × (x < size_of call.now.tree.now)) }
     ensures { result
-        ≡ tab 256 (upto (size_of tree.now)
-        (related tree.now query.now nodes.now (last_of query.now) false x)) }
+        ≡ tab 256 (upto (size_of call.now.tree.now)
+        (related call.now.tree.now call.now.query.now call.now.nodes.now (last_of call.now.query.now) false x)) }
 {
     let s = sets::single(x);
+    let last = call.query.len() / 4 - 1;
     let mut count = 0;
-    eval::path(
-        tree,
-        prev,
-        query,
-        nodes,
-        query.len() / 4 - 1,
-        false,
-        s,
-        &mut count,
-    )
+    eval::path(call, last, false, s, &mut count)
 }
 
 // All pairs of the query, row after row. A row's start is carried along by adding n, so that no product finds a place: there are
@@ -48,12 +43,16 @@ pub fn pairs_into(tree: &[u16], query: &[u16], nodes: &[u16], table: &mut [u8])
 {
     let n = tree.len() / 2;
     let prev = tree::previous_siblings(tree);
+    let call = Call {
+        tree,
+        prev: &prev,
+        query,
+        nodes,
+    };
     let mut at = 0;
-    let mut x = 0;
-    while x < n {
-        let r = row(tree, &prev, query, nodes, x);
+    for x in 0..n {
+        let r = row(&call, x);
         put_row(table, r, at, n);
         at += n;
-        x += 1;
     }
 }

@@ -6,6 +6,8 @@ ghost use Rattle.model.specs.Tree.{size_of};
 ghost use Rattle.model.specs.Results.{image_bytes, pairs_bytes};
 ghost use Rattle.checks.specs.Tables.{Tables};
 
+use model::Call;
+
 // The image of a node set under the query, or under its converse where back is set, and how many nodes it has.
 pub fn image_into(
     tree: &[u16],
@@ -25,18 +27,15 @@ pub fn image_into(
     let s = sets::load(from);
     let whole = nesting::nests(query);
     let prev = tree::previous_siblings(tree);
-    let mut count = 0;
-    let r = engines::image(
+    let call = Call {
         tree,
-        &prev,
+        prev: &prev,
         query,
         nodes,
-        whole,
-        query.len() / 4 - 1,
-        back,
-        s,
-        &mut count,
-    );
+    };
+    let last = query.len() / 4 - 1;
+    let mut count = 0;
+    let r = engines::image(&call, whole, last, back, s, &mut count);
     sets::put(to, r, tree.len() / 2);
     count
 }

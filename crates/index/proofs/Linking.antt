@@ -104,29 +104,13 @@ module _ (t : Tree) (list next₀ first₀ counts₀ : List ℕ) where
         at y a b (yes r) = rw r (get_or-set_same next x (get_or first k 0) 0 (let z = w.fits in let u = w.same_next in omega arith) ∙ w.firsts.at k l ∙ rw (tag_at, step))
         at y a b (no r) = get_or-set_other next x y (get_or first k 0) 0 r ∙ w.made y (omega arith) b
 
-    -- what a turn reads and writes is there
-
-    pub linking_next_fits : (x : ℕ) → 0 < i → x ≡ i - 1 → x < length next
-    linking_next_fits x pos e = let a = w.from in let b = w.fits in let d = w.same_next in omega arith
-
-    pub linking_first_fits : (k : ℕ) → k < length list → k < length first
-    linking_first_fits k l = let a = w.firsts.long in omega arith
-
-    pub linking_counts_fits : (k : ℕ) → k < length list → k < length counts
-    linking_counts_fits k l = let a = w.counted.long in omega arith
-
+    -- a count stays small
     pub linking_count_small : (k : ℕ) → k < length list → get_or counts k 0 ≤ 256
     unfolding count_from
     linking_count_small k l =
         let a = ones_most (tab t.size (has_from t (get_or list k 0) i)) in
         let b = w.tagged.at_most in
         omega (arith, w.counted.at k l, length_tab t.size (has_from t (get_or list k 0) i))
-
-    pub linking_small : i ≤ 256
-    linking_small = let a = w.from in let b = w.tagged.at_most in omega arith
-
-    pub linking_inside : (x : ℕ) → 0 < i → x ≡ i - 1 → x < t.size
-    linking_inside x pos e = let a = w.from in omega arith
 
     -- all nodes are linked
 

@@ -7,11 +7,13 @@ mod order;
 
 ghost use Rattle.std.specs.Prelude.{◌≡◌, ◌++◌, ◌*◌, ◌≤◌, length, drop};
 ghost use Rattle.model.specs.Tree.{tree_of, size_of};
-ghost use Rattle.model.specs.Refusals.{verdict};
+ghost use Rattle.model.specs.Refusals.{verdict, told};
 ghost use Rattle.model.specs.Checks.{room_checks};
 ghost use Rattle.model.specs.Accepted.{AcceptedTree};
-ghost use Rattle.index.specs.Index.{index_of, present, tag_list, telling, IndexLeaves};
+ghost use Rattle.index.specs.Index.{index_of, present, tag_list, told_index, IndexLeaves};
 ghost use Rattle.index.specs.Parts.{Tagged, BuffersLeave};
+
+use model::{Refusal, Reply};
 
 // The reply to the making of an index: number and place, and how many numbers were written to each buffer; 0 of a refused call.
 #[repr(C)]
@@ -23,14 +25,43 @@ pub struct IndexReply {
     pub tags: usize,
 }
 
-// Refusal 20: one of two buffers has room for less than is needed.
-fn check_buffers(next: usize, n: usize, tags: usize, needed: usize) -> model::Reply
-    ensures { result ≡ verdict (room_checks next n ++ room_checks tags needed) }
-{
-    let v = checks::check_room(next, n);
-    if v.number != 0 {
-        return v;
+// An index that was made: how many numbers were written to each buffer.
+#[derive(Clone, Copy)]
+pub struct Indexed {
+    pub next: usize,
+    pub tags: usize,
+}
+
+impl From<Result<Indexed, Refusal>> for IndexReply {
+    ghost from_gives = { λ outcome r. r ≡ told_index outcome };
+
+    fn from(outcome: Result<Indexed, Refusal>) -> IndexReply {
+        match outcome {
+            Ok(Indexed { next, tags }) => IndexReply {
+                number: 0,
+                place: 0,
+                next,
+                tags,
+            },
+            Err(e) => {
+                let Reply { number, place } = Reply::from(e);
+                IndexReply {
+                    number,
+                    place,
+                    next: 0,
+                    tags: 0,
+                }
+            }
+        }
     }
+}
+
+// Refusal 20: one of two buffers has room for less than is needed.
+#[tactic(auto, using(model::proofs::Refusals::stop_err))]
+fn check_buffers(next: usize, n: usize, tags: usize, needed: usize) -> Result<(), Refusal>
+    ensures { told result ≡ verdict (room_checks next n ++ room_checks tags needed) }
+{
+    checks::check_room(next, n)?;
     checks::check_room(tags, needed)
 }
 
@@ -48,40 +79,28 @@ fn write(tree: &[u16], list: &[u16], next: &mut [u16], tags: &mut [u16])
     links::put_tags(list, &first, &counts, tags);
 }
 
-// The verdict as a reply, with how many numbers were written to each buffer.
-pub fn reply(v: model::Reply, next: usize, tags: usize) -> IndexReply
-    ensures { result ≡ telling v next tags }
-{
-    IndexReply {
-        number: v.number,
-        place: v.place,
-        next: next,
-        tags: tags,
-    }
-}
-
 // Refusal 20, or the index and the list of the tags.
-fn fill(tree: &[u16], list: &[u16], next: &mut [u16], tags: &mut [u16]) -> IndexReply
+fn fill(tree: &[u16], list: &[u16], next: &mut [u16], tags: &mut [u16]) -> Result<Indexed, Refusal>
     requires { Tagged (tree_of tree.now) × (list.now ≡ present (tree_of tree.now)) }
     ensures { BuffersLeave (tree_of tree.now) next.old tags.old
-        result next.new tags.new }
+        (told_index result) next.new tags.new }
 {
     let n = tree.len() / 2;
     let needed = 3 * list.len();
-    let v = check_buffers(next.len(), n, tags.len(), needed);
-    if v.number != 0 {
-        return reply(v, 0, 0);
-    }
+    check_buffers(next.len(), n, tags.len(), needed)?;
     write(tree, list, next, tags);
-    reply(v, n, needed)
+    Ok(Indexed {
+        next: n,
+        tags: needed,
+    })
 }
 
 // The index of a tree, and the list of its tags. The order of the tags takes a pass over the nodes for each tag present, in vector
 // code, and the links a search by halves in that order for each node; all else is linear in n.
-pub fn build(tree: &[u16], next: &mut [u16], tags: &mut [u16]) -> IndexReply
+pub fn build(tree: &[u16], next: &mut [u16], tags: &mut [u16]) -> Result<Indexed, Refusal>
     requires { AcceptedTree tree.now }
     ensures { IndexLeaves tree.now next.old tags.old
-        result next.new tags.new }
+        (told_index result) next.new tags.new }
 {
     let mut list = [0u16; 256];
     let count = order::list_tags(tree, &mut list);

@@ -1,30 +1,15 @@
 // The links of a tree's index, and what the list of its tags holds.
-ghost use Rattle.std.specs.Prelude.{◌≡◌, cond, ◌++◌, ◌*◌, ◌≤◌, ◌<◌, length, drop, get_or};
+ghost use Rattle.std.specs.Prelude.{◌≡◌, ◌++◌, ◌*◌, ◌≤◌, ◌<◌, length, drop, get_or};
 ghost use Rattle.model.specs.Tree.{tree_of, size_of};
 ghost use Rattle.index.specs.Index.{first_from, index_of, present};
 ghost use Rattle.index.specs.Parts.{Tagged, Rising, Holds, count_from, Each, triples};
 
-// One of two numbers.
-fn pick(b: bool, x: usize, y: usize) -> usize
-    ensures { result ≡ cond b x y }
-{
-    if b { x } else { y }
-}
-
-// The place of a tag in a rising list that has it. A search by halves: it is among those from low on that are below high.
+// The place of a tag in a rising list that has it. A search by halves.
 fn place_of(list: &[u16], g: u16) -> usize
     requires { Rising list.now × Holds list.now g }
     ensures { (result < length list.now) × (get_or list.now result 0 ≡ g) }
 {
-    let mut low = 0;
-    let mut high = list.len();
-    while 1 < high - low {
-        let middle = low + (high - low) / 2;
-        let above = g < list[middle];
-        low = pick(above, low, middle);
-        high = pick(above, middle, high);
-    }
-    low
+    list.binary_search(&g).unwrap()
 }
 
 // Each node's next node of its tag, over the front of a buffer; and for each tag of the list the first node that has it, and how many
@@ -37,14 +22,11 @@ pub fn link(tree: &[u16], list: &[u16], next: &mut [u16], first: &mut [u16], cou
         × (Each (first_from (tree_of tree.now)) list.now 0 first.new
         × Each (count_from (tree_of tree.now)) list.now 0 counts.new) }
 {
-    let mut i = tree.len() / 2;
-    while 0 < i {
-        let x = i - 1;
+    for x in (0..tree.len() / 2).rev() {
         let k = place_of(list, tree::tag(tree, x));
         next[x] = first[k];
         first[k] = x as u16;
         counts[k] += 1;
-        i = x;
     }
 }
 
@@ -56,13 +38,10 @@ pub fn put_tags(list: &[u16], first: &[u16], counts: &[u16], tags: &mut [u16])
         ≡ triples list.now first.now counts.now (length list.now)
         ++ drop (3 * length list.now) tags.old }
 {
-    let mut at = 0;
-    let mut k = 0;
-    while k < list.len() {
-        tags[at] = list[k];
+    for (k, g) in list.iter().enumerate() {
+        let at = 3 * k;
+        tags[at] = *g;
         tags[at + 1] = first[k];
         tags[at + 2] = counts[k];
-        at += 3;
-        k += 1;
     }
 }

@@ -9,17 +9,17 @@ use lib.ListN.{length, set, drop}
 use lib.Dec.{ltb, leb, eqb}
 use borrow.Author.Tests.{ltb-true, ltb-false, lt-ltb, le-ltb, le-leb, leb-true, eq-eqb, eqb-true, eqb-false, not-true, ne_eqb}
 use Rattle.model.specs.Sets.{any}
-use Rattle.model.specs.Refusals.{reply, verdict}
+use Rattle.model.specs.Refusals.{reply, refused, verdict}
 use Rattle.model.specs.declared.Reply.{Reply}
-use Rattle.model.proofs.Refusals.{numbered, Passes, accepted}
+use Rattle.model.specs.declared.refusal.Refusal.{Refusal}
+use Rattle.model.proofs.Refusals.{numbered, Passes, accepted, refused_some}
 use Rattle.model.proofs.Bytes.{front_more, front_done}
 use Rattle.model.proofs.Booleans.{Seen, yes!, no!, seen, bool_ext, both_yes, yes_left, yes_right, or_left, or_right, or_cases, no_or}
 use Rattle.model.proofs.Exists.{any_intro, any_elim}
 use Rattle.job.specs.declared.Span.{Span}
-use Rattle.job.specs.declared.Job.{Job}
 use Rattle.job.specs.declared.Pointer.{Pointer}
 use Rattle.job.specs.declared.Trailer.{Trailer}
-use Rattle.job.specs.JobFile.{bad_magic, number_at, numbers, magic_of, trailer_size, trailer_start, party_of, trailer_at, trailer_of, bad_length, span_of, end_of, outside, covers, overlap, part_checks, file_checks, refused_job, job_of}
+use Rattle.job.specs.JobFile.{bad_magic, number_at, numbers, magic_of, trailer_size, trailer_start, party_of, trailer_at, trailer_of, bad_length, span_of, end_of, outside, covers, overlap, part_checks, file_checks, Job, refused_job, job_of}
 
 -- one number more at the end
 numbers_more : (f : List ℕ) (at n : ℕ) → numbers f at (suc n) ≡ numbers f at n ++ (number_at f (at + 2 * n) ∷ [])
@@ -209,11 +209,11 @@ module _ (file : List ℕ) (r : Reply) (t : Trailer) (q : t ≡ trailer_of file)
   unfolding file_checks bad_magic verdict
   magic_right s m d e = rw (l, rw q at m) (e ∙ rw (d, q))
 
-module _ (file : List ℕ) (r : Reply) (v : r ≡ verdict (file_checks file)) where
-  pub refused_is : (r.number ≡ 0 → ⊥) → refused_job r ≡ job_of file
-  unfolding job_of
-  refused_is z = rw (sym v, ne_eqb r.number 0 z)
+pub refused_is : (file : List ℕ) (e : Refusal) → refused e ≡ verdict (file_checks file) → refused_job (refused e) ≡ job_of file
+unfolding job_of
+refused_is file e v = rw (sym v, ne_eqb (refused e).number 0 (refused_some e))
 
+module _ (file : List ℕ) (r : Reply) (v : r ≡ verdict (file_checks file)) where
   module _ (z : r.number ≡ 0) where
     pub accepted_is : (t : Trailer) (a b : Span) → t ≡ trailer_of file → a ≡ span_of (length file) t.tree → b ≡ span_of (length file) t.query
         → ◌≡◌ {A = Job} (record { reply = r; tree = a; query = b; columns = t.columns; party = t.party; owners = eqb t.magic 20565 }) (job_of file)

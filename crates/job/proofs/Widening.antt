@@ -101,15 +101,3 @@ module _ (t out : List ℕ) (x : ℕ) (w : Widening t out x) (few : length t ≤
 
 pub widening_all : (t out : List ℕ) (x : ℕ) → Widening t out x → length t / 2 ≤ x → Widening t out (length t / 2)
 widening_all t out x w h = subst (λ (k : ℕ). Widening t out k) (let e : x ≡ length t / 2 = omega (arith, w.most) in e) w
-
--- a place stays within a list that is stored to
-pub place_kept : (l : List ℕ) (i a k : ℕ) → k < length l → k < length (set l i a)
-place_kept l i a k h = rw (length-set l i a) h
-
--- the number too many of an odd table
-pub odd_read : (t : List ℕ) → (length t % 2 ≡ 0 → ⊥) → 2 * (length t / 2) < length t
-odd_read t z = go (length t % 2) refl
-  where
-    go : (k : ℕ) → length t % 2 ≡ k → 2 * (length t / 2) < length t
-    go zero e = absurd (z e)
-    go (suc k) e = omega arith

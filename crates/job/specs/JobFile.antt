@@ -1,10 +1,11 @@
 -- The job file (documents 01 and 02, §8): its numbers, its trailer, its two parts, and refusals 1 to 4.
-use Rattle.std.specs.Prelude.{ℕ, zero, suc, ◌+◌, ◌-◌, ◌*◌, ◌≡◌, Bool, false, not, ◌&&◌, ◌||◌, cond, List, [], ◌∷◌, length, get_or, take, ltb, leb, eqb}
+use Rattle.std.specs.Prelude.{ℕ, zero, suc, ◌+◌, ◌-◌, ◌*◌, ◌≡◌, Bool, false, not, ◌&&◌, ◌||◌, cond, List, [], ◌∷◌, Result, Ok, Err, length, get_or, take, ltb, leb, eqb}
 use Rattle.model.specs.Sets.{any}
-use Rattle.model.specs.Refusals.{Check, refuse, refuse_here, verdict}
+use Rattle.model.specs.Refusals.{Check, refuse, refuse_here, reply, refused, verdict}
 use Rattle.model.specs.declared.Reply.{Reply}
+use Rattle.model.specs.declared.refusal.Refusal.{Refusal}
 use Rattle.job.specs.declared.Span.{Span}
-use Rattle.job.specs.declared.Job.{Job}
+use Rattle.job.specs.declared.Parts.{Parts}
 use Rattle.job.specs.declared.Pointer.{Pointer}
 use Rattle.job.specs.declared.Trailer.{Trailer}
 
@@ -96,6 +97,15 @@ file_checks file =
     ∷ refuse 2 (bad_magic (magic_of file))
     ∷ part_checks (length file) (trailer_start file) (trailer_of file).tree (trailer_of file).query
 
+-- what a file gives: 0 with its parts, its number of variables, its party and whether its nodes have owners, or a refusal with all else 0
+pub record Job : Type 0 where
+  pub reply : Reply
+  pub tree : Span
+  pub query : Span
+  pub columns : ℕ
+  pub party : ℕ
+  pub owners : Bool
+
 -- a refusal, with no parts
 abbrev pub refused_job : Reply → Job
 refused_job r =
@@ -119,6 +129,12 @@ job_of file =
     cond (eqb (verdict (file_checks file)).number 0)
     (job_with (verdict (file_checks file)) (length file) (trailer_of file))
     (refused_job (verdict (file_checks file)))
+
+-- what the opening of a file comes to
+abbrev pub opened : Result Parts Refusal → Job
+opened (Ok p) =
+    record { reply = reply 0 0; tree = p.tree; query = p.query; columns = p.columns; party = p.party; owners = p.owners }
+opened (Err e) = refused_job (refused e)
 
 -- a tree table of two numbers a node, as files of old have it, as a shared table: every node is common. A number too many stays at the
 -- end, so that a bad length stays one

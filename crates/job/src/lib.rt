@@ -2,20 +2,26 @@
 #![tactic(auto)]
 
 ghost use Rattle.std.specs.Prelude.{◌≡◌, ◌++◌, ◌+◌, ◌*◌, ◌≤◌, ◌<◌, false, length, drop};
-ghost use Rattle.model.specs.Refusals.{verdict};
-ghost use Rattle.job.specs.JobFile.{number_at, numbers, pointer_at, magic_of, trailer_size, party_of, trailer_at, trailer_of, bad_length, span_of, end_of, outside, overlap, part_checks, file_checks, job_of, widened, Fronts};
+ghost use Rattle.model.specs.Refusals.{verdict, told};
+ghost use Rattle.job.specs.JobFile.{number_at, numbers, pointer_at, magic_of, trailer_size, party_of, trailer_at, trailer_of, bad_length, span_of, end_of, outside, overlap, part_checks, file_checks, job_of, opened, widened, Fronts};
+
+use model::Refusal;
+
+// The marks of a file without owners, which is party 1's, and of one with owners and a party.
+const PLAIN: u16 = 20564;
+
+const OWNED: u16 = 20565;
 
 // A part of the file: where its first byte stands, and how many numbers it holds.
-#[derive(Drop)]
+#[derive(Clone, Copy)]
 pub struct Span {
     pub start: usize,
     pub count: usize,
 }
 
-// What a file gives: 0 with its parts, its number of variables, its party and whether its nodes have owners, or a refusal with all else 0.
-#[derive(Drop)]
-pub struct Job {
-    pub reply: model::Reply,
+// What an accepted file gives: its parts, its number of variables, its party and whether its nodes have owners.
+#[derive(Clone, Copy)]
+pub struct Parts {
     pub tree: Span,
     pub query: Span,
     pub columns: u16,
@@ -31,7 +37,7 @@ struct Pointer {
 }
 
 // The last 14 bytes of a file with owners, and the last 12 of one without, which is party 1's.
-#[derive(Drop)]
+#[derive(Clone, Copy)]
 struct Trailer {
     tree: Pointer,
     query: Pointer,
@@ -41,13 +47,12 @@ struct Trailer {
 }
 
 // The number at a byte, low byte first.
+#[tactic(auto, unfolding(crate::specs::JobFile::number_at))]
 fn number_at(file: &[u8], at: usize) -> u16
     requires { at + 1 < length file.now }
     ensures { result ≡ number_at file.now at }
 {
-    let low = file[at] as u16;
-    let high = file[at + 1] as u16;
-    low + 256 * high
+    u16::from_le_bytes([file[at], file[at + 1]])
 }
 
 // The distance and the count of a part, at a byte of the trailer.
@@ -73,7 +78,7 @@ fn magic_of(file: &[u8]) -> u16
 fn trailer_size(magic: u16) -> usize
     ensures { (result ≡ trailer_size magic) × ((12 ≤ result) × (result ≤ 14)) }
 {
-    if magic == 20565 { 14 } else { 12 }
+    if magic == OWNED { 14 } else { 12 }
 }
 
 // The party of a file whose trailer begins at a byte.
@@ -81,10 +86,11 @@ fn party_of(file: &[u8], start: usize, magic: u16) -> u16
     requires { start + trailer_size magic ≤ length file.now }
     ensures { result ≡ party_of file.now start magic }
 {
-    if magic == 20565 {
-        return number_at(file, start + 10);
+    if magic == OWNED {
+        number_at(file, start + 10)
+    } else {
+        1
     }
-    1
 }
 
 // The trailer of a file, which begins at a byte.
@@ -92,14 +98,12 @@ fn trailer_at(file: &[u8], start: usize, magic: u16) -> Trailer
     requires { start + trailer_size magic ≤ length file.now }
     ensures { result ≡ trailer_at file.now start magic }
 {
-    let tree = pointer_at(file, start);
-    let query = pointer_at(file, start + 4);
     Trailer {
-        tree: tree,
-        query: query,
+        tree: pointer_at(file, start),
+        query: pointer_at(file, start + 4),
         columns: number_at(file, start + 8),
         party: party_of(file, start, magic),
-        magic: magic,
+        magic,
     }
 }
 
@@ -136,20 +140,20 @@ fn is_overlap(n: usize, a: Span, b: Span) -> bool
 }
 
 // Refusals 3 and 4.
-fn check_parts(n: usize, start: usize, tree: Pointer, query: Pointer) -> model::Reply
+fn check_parts(n: usize, start: usize, tree: Pointer, query: Pointer) -> Result<(), Refusal>
     requires { (start ≤ n) × (n ≤ 4096) }
-    ensures { result ≡ verdict (part_checks n start tree query) }
+    ensures { told result ≡ verdict (part_checks n start tree query) }
 {
     if is_outside(n, start, tree) {
-        return model::reply_at(3, 0);
+        return Err(Refusal::JobPart(0));
     }
     if is_outside(n, start, query) {
-        return model::reply_at(3, 1);
+        return Err(Refusal::JobPart(1));
     }
     if is_overlap(n, span_of(n, tree), span_of(n, query)) {
-        return model::reply_at(4, 0);
+        return Err(Refusal::JobOverlap);
     }
-    model::reply_at(0, 0)
+    Ok(())
 }
 
 // Refusal 1: the file is shorter than its trailer, or too long.
@@ -173,50 +177,35 @@ fn trailer_of(file: &[u8]) -> Trailer
 }
 
 // Refusals 1 to 4.
-fn check(file: &[u8]) -> model::Reply
-    ensures { result ≡ verdict (file_checks file.now) }
+fn check(file: &[u8]) -> Result<(), Refusal>
+    ensures { told result ≡ verdict (file_checks file.now) }
 {
     if is_bad_length(file) {
-        return model::reply_at(1, 0);
+        return Err(Refusal::JobLength);
     }
     let n = file.len();
     let t = trailer_of(file);
-    let unknown = (t.magic != 20564) & (t.magic != 20565);
+    let unknown = (t.magic != PLAIN) & (t.magic != OWNED);
     if unknown {
-        return model::reply_at(2, 0);
+        return Err(Refusal::JobMark);
     }
-    let tree = t.tree;
-    let query = t.query;
-    check_parts(n, n - trailer_size(t.magic), tree, query)
+    check_parts(n, n - trailer_size(t.magic), t.tree, t.query)
 }
 
-// What a file gives. Only its trailer is read.
-pub fn open(file: &[u8]) -> Job
-    ensures { result ≡ job_of file.now }
+// What a file gives, or its refusal. Only its trailer is read.
+pub fn open(file: &[u8]) -> Result<Parts, Refusal>
+    ensures { opened result ≡ job_of file.now }
 {
-    let reply = check(file);
-    if reply.number != 0 {
-        return Job {
-            reply: reply,
-            tree: Span { start: 0, count: 0 },
-            query: Span { start: 0, count: 0 },
-            columns: 0,
-            party: 0,
-            owners: false,
-        };
-    }
+    check(file)?;
     let n = file.len();
     let t = trailer_of(file);
-    let tree = t.tree;
-    let query = t.query;
-    Job {
-        reply: reply,
-        tree: span_of(n, tree),
-        query: span_of(n, query),
+    Ok(Parts {
+        tree: span_of(n, t.tree),
+        query: span_of(n, t.query),
         columns: t.columns,
         party: t.party,
-        owners: t.magic == 20565,
-    }
+        owners: t.magic == OWNED,
+    })
 }
 
 // The numbers of a part, over the front of a buffer. One turn a number.
@@ -224,10 +213,8 @@ pub fn decode(file: &[u8], start: usize, count: usize, out: &mut [u16])
     requires { (start + 2 * count ≤ length file.now) × (count ≤ length out.old) }
     ensures { out.new ≡ numbers file.now start count ++ drop count out.old }
 {
-    let mut i = 0;
-    while i < count {
+    for i in 0..count {
         out[i] = number_at(file, start + 2 * i);
-        i += 1;
     }
 }
 
@@ -238,12 +225,10 @@ pub fn widen(table: &[u16], out: &mut [u16]) -> usize
     ensures { Fronts (widened table.now) result out.new }
 {
     let n = table.len() / 2;
-    let mut x = 0;
-    while x < n {
+    for x in 0..n {
         out[3 * x] = table[2 * x];
         out[3 * x + 1] = table[2 * x + 1];
         out[3 * x + 2] = 0;
-        x += 1;
     }
     if table.len() % 2 == 0 {
         return 3 * n;

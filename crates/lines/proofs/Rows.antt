@@ -1,12 +1,12 @@
 -- Laws of the lines of output, and of the loops that write them.
-use Prim.Native.Nat.{ℕ, zero, suc, ◌+◌, ◌-◌, ◌*◌, ◌^◌, ◌≤◌, ◌<◌}
+use Prim.Native.Nat.{ℕ, zero, suc, ◌+◌, ◌*◌, ◌^◌, ◌≤◌, ◌<◌}
 use native.Mathlib.Numerals.{add-one}
 use native.Mathlib.Omega.{arith}
 use mathlib.Core.Path.{◌≡◌, refl, sym}
 use mathlib.Core.Bool.{cond}
 use mathlib.Core.List.{List, [], ◌∷◌, ◌++◌}
 use lib.ListN.{length, take, drop, get_or, length-append, length-take, drop_of_length-le}
-use lib.Seq.{drop-cons, drop-drop, get_or-drop}
+use lib.Seq.{drop-cons, get_or-drop}
 use lib.Dec.{ltb}
 use borrow.Author.Tests.{ltb-true, ltb-false}
 use Rattle.model.proofs.Booleans.{Seen, yes!, no!, seen}
@@ -32,14 +32,6 @@ module _ (n byte at : ℕ) (a : List ℕ) (room : at + length (field n byte) ≤
     pub wrote_field : (c : List ℕ) (k : ℕ) → Wrote (byte ∷ []) m b c k → Wrote (field n byte) at a c k
     wrote_field c k v = last (field n byte) at a m b (byte ∷ []) number_on k c v
 
--- a loop over bytes
-
-pub next_byte : (l : List ℕ) (i : ℕ) → i < length l → drop i l ≡ (get_or l i 0 ∷ []) ++ drop (i + 1) l
-next_byte l i h = rw (add-one i) (drop-cons l i 0 h)
-
-pub next_byte_fits : (whole : List ℕ) (at : ℕ) (before l : List ℕ) (i next : ℕ) (now : List ℕ) → i < length l → Writing whole at before (drop i l) next now → next < length now
-next_byte_fits whole at before l i next now h w = omega (arith, fits whole at before next now (get_or l i 0 ∷ []) (drop i l) (drop (i + 1) l) w (next_byte l i h))
-
 -- a loop over the numbers of a row
 
 gap_is : (row : List ℕ) (k : ℕ) → gap (drop k row) ≡ cond (ltb k (length row)) 32 10
@@ -63,38 +55,26 @@ pub no_number : (row : List ℕ) (i : ℕ) → length row ≤ i → row_line (dr
 unfolding row_line
 no_number row i h = rw (drop_of_length-le row h)
 
--- a loop over rows of k numbers
+-- a loop over rows of k numbers: one row is taken off those that are left
 
-pub next_row : (k left from : ℕ) (rows row : List ℕ) → 0 < left → row ≡ take ((from + k) - from) (drop from rows)
-    → row_lines k left (drop from rows) ≡ row_line row ++ row_lines k (left - 1) (drop (from + k) rows)
+pub next_row : (k left fewer : ℕ) (rows row rest : List ℕ) → left ≡ suc fewer → row ≡ take k rows → rest ≡ drop k rows
+    → row_lines k left rows ≡ row_line row ++ row_lines k fewer rest
 unfolding row_lines
-next_row k zero from rows row h e = absurd (let z : ⊥ = omega arith in z)
-next_row k (suc m) from rows row h e =
-    rw (e, drop-drop k from rows, whole from k, less m)
-  where
-    whole : (a b : ℕ) → (a + b) - a ≡ b
-    whole a b = omega arith
+next_row k left fewer rows row rest h e f = rw (h, e, f)
 
-    less : (m : ℕ) → suc m - 1 ≡ m
-    less m = omega arith
-
-pub next_row_fits : (whole : List ℕ) (at : ℕ) (before : List ℕ) (k left from : ℕ) (rows row : List ℕ) (next : ℕ) (now : List ℕ) → 0 < left → row ≡ take ((from + k) - from) (drop from rows)
-    → Writing whole at before (row_lines k left (drop from rows)) next now → next + length (row_line row) ≤ length now
-next_row_fits whole at before k left from rows row next now h e w =
-    fits whole at before next now (row_line row) (row_lines k left (drop from rows)) (row_lines k (left - 1) (drop (from + k) rows)) w (next_row k left from rows row h e)
+pub next_row_fits : (whole : List ℕ) (at : ℕ) (before : List ℕ) (k left fewer : ℕ) (rows row rest : List ℕ) (next : ℕ) (now : List ℕ)
+    → left ≡ suc fewer → row ≡ take k rows → rest ≡ drop k rows
+    → Writing whole at before (row_lines k left rows) next now → next + length (row_line row) ≤ length now
+next_row_fits whole at before k left fewer rows row rest next now h e f w =
+    fits whole at before next now (row_line row) (row_lines k left rows) (row_lines k fewer rest) w (next_row k left fewer rows row rest h e f)
 
 -- the numbers of the rows that are left
-pub one_row : (left k : ℕ) → 0 < left → left * k ≡ k + (left - 1) * k
-one_row zero k h = absurd (let z : ⊥ = omega arith in z)
-one_row (suc m) k h = rw (less m) (omega arith)
-  where
-    less : (m : ℕ) → suc m - 1 ≡ m
-    less m = omega arith
+pub one_row : (left fewer k : ℕ) → left ≡ suc fewer → left * k ≡ k + fewer * k
+one_row left fewer k h = rw h (omega arith)
 
-pub no_row : (k left : ℕ) (rows : List ℕ) → left ≤ 0 → row_lines k left rows ≡ []
+pub no_row : (k left : ℕ) (rows : List ℕ) → left ≡ 0 → row_lines k left rows ≡ []
 unfolding row_lines
-no_row k zero rows h = refl
-no_row k (suc m) rows h = absurd (let z : ⊥ = omega arith in z)
+no_row k left rows h = rw h
 
 -- a number below 65536 takes at most six bytes with what follows it
 

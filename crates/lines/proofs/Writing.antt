@@ -7,6 +7,7 @@ use mathlib.Core.Path.{◌≡◌, refl, sym, ap, ◌∙◌}
 use mathlib.Core.List.{List, [], ◌∷◌, ◌++◌, append_assoc, append-nil}
 use lib.ListN.{length, set, take, drop, length-append, length-drop, take-append-drop}
 use lib.Seq.{set_split, take_at, drop_at, drop-drop, length-take-le}
+use borrow.Rule.Slice.PartMut.{put_mid}
 use Rattle.lines.specs.Lines.{put, Wrote}
 
 put_none : (at : ℕ) (l : List ℕ) → put at [] l ≡ l
@@ -93,3 +94,8 @@ pub line_within : (bytes before after : List ℕ) (n : ℕ) → Wrote bytes 0 be
 unfolding put
 line_within bytes before after n w e =
     omega (arith, w.moved, e, ap length w.buffer, length-append bytes (drop (0 + length bytes) before), length-drop (0 + length bytes) before)
+
+-- bytes that were copied over a part of a buffer
+pub wrote_part : (at n : ℕ) (bytes part l : List ℕ) → n ≡ length bytes → part ≡ bytes → put_mid at n l part ≡ put at bytes l
+unfolding put
+wrote_part at n bytes part l h e = rw (h, e) (ap (λ (r : List ℕ). take at l ++ (bytes ++ r)) (drop-drop (length bytes) at l))

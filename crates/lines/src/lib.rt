@@ -19,10 +19,10 @@ fn put_decimal(out: &mut [u8], at: usize, n: usize) -> usize
     ensures { Wrote (decimal n) at out.old out.new result }
 {
     if n < 10 {
-        return put_byte(out, at, 48 + n as u8);
+        return put_byte(out, at, b'0' + n as u8);
     }
     let next = put_decimal(out, at, n / 10);
-    put_byte(out, next, 48 + (n % 10) as u8)
+    put_byte(out, next, b'0' + (n % 10) as u8)
 }
 
 // A number, and the byte that follows it.
@@ -34,18 +34,14 @@ fn put_field(out: &mut [u8], at: usize, n: usize, byte: u8) -> usize
     put_byte(out, next, byte)
 }
 
-// The bytes of a slice, one turn each.
+// The bytes of a slice.
 fn put_bytes(out: &mut [u8], at: usize, bytes: &[u8]) -> usize
     requires { at + length bytes.now ≤ length out.old }
     ensures { Wrote bytes.now at out.old out.new result }
 {
-    let mut next = at;
-    let mut i = 0;
-    while i < bytes.len() {
-        next = put_byte(out, next, bytes[i]);
-        i += 1;
-    }
-    next
+    let end = at + bytes.len();
+    out[at..end].copy_from_slice(bytes);
+    end
 }
 
 // What follows a number of a row.
@@ -61,11 +57,8 @@ fn row_line(out: &mut [u8], at: usize, row: &[u16]) -> usize
     ensures { Wrote (row_line row.now) at out.old out.new result }
 {
     let mut next = at;
-    let mut i = 0;
-    while i < row.len() {
-        let x = model::wide(row[i]);
-        i += 1;
-        next = put_field(out, next, x, separator(i < row.len()));
+    for (i, x) in row.iter().enumerate() {
+        next = put_field(out, next, usize::from(*x), separator(i + 1 < row.len()));
     }
     next
 }
@@ -76,13 +69,11 @@ pub fn row_lines(out: &mut [u8], at: usize, rows: &[u16], k: usize, count: usize
     ensures { Wrote (row_lines k count rows.now) at out.old out.new result }
 {
     let mut next = at;
-    let mut from = 0;
-    let mut left = count;
-    while 0 < left {
-        let end = from + k;
-        next = row_line(out, next, &rows[from..end]);
-        from = end;
-        left -= 1;
+    let mut rest = rows;
+    for _ in 0..count {
+        let (row, after) = rest.split_at(k);
+        next = row_line(out, next, row);
+        rest = after;
     }
     next
 }

@@ -7,7 +7,6 @@ use mathlib.Core.List.{List}
 use lib.Dec.{eqb}
 use lib.ListN.{length, get_or, set, replicate}
 use borrow.Author.Tests.{eq-eqb, ne_eqb}
-use Rattle.model.specs.declared.Reply.{Reply}
 use Rattle.model.specs.Tree.{Tree}
 use Rattle.model.specs.Axes.{descendant, following}
 use Rattle.model.specs.Refusals.{lowest, reply}
@@ -73,9 +72,9 @@ module _ (t : Tree) (next : List ℕ) (start tag end : ℕ) where
         judged : wrong t tag y (get_or next y 0) ≡ b
         judged = ap (wrong t tag y) (sym e) ∙ sym f
 
-        pub walk_breaks : (v : Reply) → v ≡ reply 27 y → b ≡ true → record { verdict = v; nodes = s } ≡ walk_of (chain_of t next start tag)
+        pub walk_breaks : b ≡ true → reply 27 y ≡ (walk_of (chain_of t next start tag)).verdict
         unfolding along chain_from
-        walk_breaks v q p = step w.left w.enough (λ j g. rw (q, w.same, g, goes_on, judged ∙ p))
+        walk_breaks p = step w.left w.enough (λ j g. rw (w.same, g, goes_on, judged ∙ p))
 
         rises : b ≡ false → y < z
         rises p = go (right_later t tag y z (sym f ∙ p))
@@ -103,9 +102,9 @@ module _ (t : Tree) (next : List ℕ) (start tag end : ℕ) where
             onward (node! a c d) (node! k m e) = node! (omega arith) m e
 
     -- from the end on, it is beyond the subtree, or 65535
-    pub walk_ends : (v : Reply) → end ≤ y → v ≡ reply 0 0 → record { verdict = v; nodes = s } ≡ walk_of (chain_of t next start tag)
+    pub walk_ends : end ≤ y → (reply 0 0 ≡ (walk_of (chain_of t next start tag)).verdict) × (s ≡ (walk_of (chain_of t next start tag)).nodes)
     unfolding along
-    walk_ends v l q = rw (q, w.same, chain_ends t next start tag y w.left (over w.later))
+    walk_ends l = rw (w.same, chain_ends t next start tag y w.left (over w.later)) (refl, refl)
       where
         over : Later t tag start y → ends t start y ≡ true
         over (none! e) = or_left (eqb y 65535) (not (descendant t start y)) (eq-eqb y 65535 e)

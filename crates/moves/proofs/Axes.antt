@@ -1,6 +1,6 @@
 -- The moves of a table's columns along each axis and by a step, from passes along the links. What is said of one node set
 -- in crate steps is said here of every column.
-use Prim.Native.Nat.{ℕ, ◌+◌, ◌/◌, ◌%◌, ◌≤◌, ◌<◌}
+use Prim.Native.Nat.{ℕ, ◌≤◌, ◌<◌}
 use native.Mathlib.Omega.{arith}
 use mathlib.Core.Path.{◌≡◌, refl, sym, ap, ◌∙◌}
 use mathlib.Core.Logic.{⊎_elim}
@@ -9,16 +9,17 @@ use mathlib.Core.List.{List}
 use lib.Dec.{eqb}
 use Rattle.model.specs.Sets.{any, tab, memb, upto, turn}
 use Rattle.model.specs.Tree.{Tree, tree_of, size_of}
+use Rattle.model.specs.Numbers.{axis_number}
+use Rattle.model.specs.declared.kind.Axis.{Axis}
 use Rattle.model.specs.Axes.{following, axis, passes, steps}
 use Rattle.model.proofs.Booleans.{bool_ext, both_yes, yes_left, yes_right}
 use Rattle.model.proofs.Exists.{any_intro, any_elim, any_cong}
 use Rattle.sets.specs.NodeSets.{always, combination}
 use Rattle.sets.proofs.Images.{trim_upto, image_cong}
 use Rattle.tree.specs.Links.{links}
-use Rattle.steps.specs.Moves.{hop, plus, star, forward, passes_all, Linked}
+use Rattle.steps.specs.Moves.{hop, plus, star, forward, is_converse, pair_of, passes_all, Linked}
 use Rattle.steps.proofs.Closure.{hop_of, hop_falls, hop_is, plus_falls, plus_cases, plus_one, plus_star, plus_split, star_self, star_plus, star_more, star_lower, star_strict}
-use Rattle.steps.proofs.Axes.{axis_turn_lem}
-use Rattle.steps.proofs.Images.{self_of, following_by, moves, forward_by, step_whole}
+use Rattle.steps.proofs.Images.{self_of, following_by, moves, forward_by, axis_turns, step_whole}
 use Rattle.bits.specs.BitTables.{bit_relation}
 use Rattle.bits.specs.Rows.{Becomes, composed, starting_in}
 use Rattle.moves.specs.Columns.{column, Moved}
@@ -84,13 +85,14 @@ module _ (t prev : List ℕ) (k : Linked t prev) where
   unfolding moves
   forward_stay h back w e = forward_moved h 0 back w w (self_moved (size_of t) back w small) e
 
--- an even code is the converse of the axis before it
-pub axis_moved : (t : Tree) (n a : ℕ) (w o : List ℕ) → Moved n (turn (not (eqb (a % 2) 0)) (forward t ((a + 1) / 2))) w o → n ≤ 256 → a ≤ 12 → Moved n (turn true (axis t a)) w o
-axis_moved t n a w o m le l = moved_as n (turn (not (eqb (a % 2) 0)) (forward t ((a + 1) / 2))) (turn true (axis t a)) w o m
-    (λ S r e. e ∙ image_cong n le (turn (not (eqb (a % 2) 0)) (forward t ((a + 1) / 2))) (turn true (axis t a)) S
-    (λ x y lx ly. same (eqb (a % 2) 0) x y ∙ sym (axis_turn_lem t a y x l)))
+-- an axis is a forward one or its converse
+pub axis_moved : (t : Tree) (n : ℕ) (a : Axis) (turned : Bool) (w o : List ℕ) → Moved n (turn (not turned) (forward t (pair_of (axis_number a)))) w o → turned ≡ is_converse (axis_number a) → n ≤ 256
+    → Moved n (turn true (axis t (axis_number a))) w o
+axis_moved t n a turned w o m e le = moved_as n (turn (not turned) (forward t (pair_of (axis_number a)))) (turn true (axis t (axis_number a))) w o m
+    (λ S r f. f ∙ image_cong n le (turn (not turned) (forward t (pair_of (axis_number a)))) (turn true (axis t (axis_number a))) S
+    (λ x y lx ly. rw e (same (is_converse (axis_number a)) x y) ∙ sym (axis_turns t a y x)))
   where
-    same : (b : Bool) (x y : ℕ) → turn (not b) (forward t ((a + 1) / 2)) x y ≡ turn b (forward t ((a + 1) / 2)) y x
+    same : (b : Bool) (x y : ℕ) → turn (not b) (forward t (pair_of (axis_number a))) x y ≡ turn b (forward t (pair_of (axis_number a))) y x
     same true x y = refl
     same false x y = refl
 

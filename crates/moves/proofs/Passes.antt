@@ -1,12 +1,12 @@
 -- Laws of the passes over the rows of a table. What stands in the rows after some turns is a relation; each turn writes a row.
-use Prim.Native.Nat.{ℕ, suc, ◌+◌, ◌≤◌, ◌<◌}
+use Prim.Native.Nat.{ℕ, suc, ◌+◌, ◌≤◌, ◌<◌, min}
 use native.Mathlib.Numerals.{add-one}
 use native.Mathlib.Omega.{arith}
 use mathlib.Core.Path.{◌≡◌, refl, sym, ap, ap₂, ◌∙◌}
 use mathlib.Core.Bool.{Bool, true, false, not, ◌&&◌, ◌||◌, cond, and_comm, and-false, or-false, or_self, and-or_distrib_left}
 use mathlib.Core.List.{List}
 use lib.Dec.{ltb, eqb}
-use borrow.Author.Tests.{ltb-true, lt-ltb, le-ltb, eq-eqb, ne_eqb}
+use borrow.Author.Tests.{ltb-true, ltb-false, lt-ltb, le-ltb, eq-eqb, ne_eqb}
 use Rattle.model.specs.Sets.{any, turn}
 use Rattle.model.specs.Tree.{Tree}
 use Rattle.model.specs.Axes.{matches, passes}
@@ -78,12 +78,13 @@ lower_alone : (L : ℕ → ℕ) (y : ℕ) → ltb (L y) y ≡ false → lower L 
 unfolding lower
 lower_alone L y e = rw e
 
--- the same from the test
-pub link_lower : (L : ℕ → ℕ) (y p : ℕ) → p ≡ L y → ltb p y ≡ true → p ≡ lower L y
-link_lower L y p e q = e ∙ sym (lower_linked L y (ap (λ (k : ℕ). ltb k y) (sym e) ∙ q))
-
-pub link_none : (L : ℕ → ℕ) (y p : ℕ) → p ≡ L y → ltb p y ≡ false → y ≡ lower L y
-link_none L y p e q = sym (lower_alone L y (ap (λ (k : ℕ). ltb k y) (sym e) ∙ q))
+-- the same as the lesser of two numbers
+pub link_min : (L : ℕ → ℕ) (y p r : ℕ) → p ≡ L y → r ≡ min p y → r ≡ lower L y
+link_min L y p r e q = go (seen (ltb (L y) y))
+  where
+    go : Seen (ltb (L y) y) → r ≡ lower L y
+    go (yes! h) = (let l : L y < y = ltb-true (L y) y h in let f : r ≡ L y = omega arith in f) ∙ sym (lower_linked L y h)
+    go (no! h) = (let l : y ≤ L y = ltb-false (L y) y h in let f : r ≡ y = omega arith in f) ∙ sym (lower_alone L y h)
 
 pub lower_least : (L : ℕ → ℕ) (y p : ℕ) → p ≡ lower L y → p ≤ y
 lower_least L y p e = go (seen (ltb (L y) y))

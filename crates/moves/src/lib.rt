@@ -11,11 +11,14 @@ ghost use Rattle.std.specs.Prelude.{true, ◌*◌, ◌≤◌, length};
 ghost use Rattle.model.specs.Sets.{turn};
 ghost use Rattle.model.specs.Tree.{tree_of, size_of};
 ghost use Rattle.model.specs.Axes.{following, axis, passes, steps};
+ghost use Rattle.model.specs.Numbers.{axis_number};
 ghost use Rattle.tree.specs.Links.{links};
-ghost use Rattle.steps.specs.Moves.{hop, plus, star, forward, Linked};
+ghost use Rattle.steps.specs.Moves.{hop, plus, star, forward, pair_of, Linked};
 ghost use Rattle.bits.specs.BitTables.{bit_relation};
 ghost use Rattle.bits.specs.Rows.{Becomes, composed, starting_in};
 ghost use Rattle.moves.specs.Columns.{Moved};
+
+use model::Axis;
 
 // One hop along a link, away from node 0, or back.
 fn move_hop(link: &[u16], n: usize, back: bool, acc: &mut [u64])
@@ -61,46 +64,31 @@ fn move_following(tree: &[u16], prev: &[u16], back: bool, acc: &mut [u64])
     move_star(tree, n, false, acc);
 }
 
-// A forward axis, by half of its code rounded up, or its converse.
-fn move_forward(tree: &[u16], prev: &[u16], h: usize, back: bool, acc: &mut [u64])
-    requires { Linked tree.now prev.now × ((h ≤ 6) × (4 * size_of tree.now ≤ length acc.old)) }
-    ensures { Moved (size_of tree.now) (turn back (forward (tree_of tree.now) h)) acc.old acc.new }
+// The forward axis of a pair of converses, or, where the flag is set, its converse.
+fn move_forward(tree: &[u16], prev: &[u16], a: Axis, back: bool, acc: &mut [u64])
+    requires { Linked tree.now prev.now × (4 * size_of tree.now ≤ length acc.old) }
+    ensures { Moved (size_of tree.now)
+        (turn back (forward (tree_of tree.now) (pair_of (axis_number a)))) acc.old acc.new }
 {
     let n = tree.len() / 2;
-    if h == 0 {
-        return;
+    match a {
+        Axis::Itself => {}
+        Axis::Child | Axis::Parent => move_hop(tree, n, back, acc),
+        Axis::Right | Axis::Left => move_hop(prev, n, back, acc),
+        Axis::Descendant | Axis::Ancestor => move_plus(tree, n, back, acc),
+        Axis::Following | Axis::Preceding => move_following(tree, prev, back, acc),
+        Axis::FollowingSibling | Axis::PrecedingSibling => move_plus(prev, n, back, acc),
+        Axis::DescendantOrSelf | Axis::AncestorOrSelf => move_star(tree, n, back, acc),
     }
-    if h == 1 {
-        move_hop(tree, n, back, acc);
-        return;
-    }
-    if h == 2 {
-        move_hop(prev, n, back, acc);
-        return;
-    }
-    if h == 3 {
-        move_plus(tree, n, back, acc);
-        return;
-    }
-    if h == 4 {
-        move_following(tree, prev, back, acc);
-        return;
-    }
-    if h == 5 {
-        move_plus(prev, n, back, acc);
-        return;
-    }
-    move_star(tree, n, back, acc);
 }
 
-// The converse of an axis by its code: an odd code is a forward axis, an even one the converse of the one beside it.
-fn move_axis(tree: &[u16], prev: &[u16], a: usize, acc: &mut [u64])
-    requires { Linked tree.now prev.now × ((a ≤ 12) × (4 * size_of tree.now ≤ length acc.old)) }
-    ensures { Moved (size_of tree.now) (turn true (axis (tree_of tree.now) a)) acc.old acc.new }
+// The converse of an axis: of a forward one by moves back, of the converse of one by moves away.
+fn move_axis(tree: &[u16], prev: &[u16], a: Axis, acc: &mut [u64])
+    requires { Linked tree.now prev.now × (4 * size_of tree.now ≤ length acc.old) }
+    ensures { Moved (size_of tree.now) (turn true (axis (tree_of tree.now) (axis_number a))) acc.old acc.new }
 {
-    let h = (a + 1) / 2;
-    let back = a % 2 != 0;
-    move_forward(tree, prev, h, back, acc);
+    let back = !steps::is_converse(a);
+    move_forward(tree, prev, a, back, acc);
 }
 
 // The rows of the nodes that do not pass the name test are cleared. One pass.
@@ -110,20 +98,18 @@ fn keep_named(tree: &[u16], name: usize, acc: &mut [u64])
         (starting_in (passes (tree_of tree.now) name) (bit_relation acc.old)) acc.old acc.new }
 {
     let n = tree.len() / 2;
-    let mut y = 0;
-    while y < n {
+    for y in 0..n {
         let kept = steps::matches_tag(name, tree::tag(tree, y));
         tables::row::keep_if(acc, y, kept);
-        y += 1;
     }
 }
 
-// The table becomes that of a step, by the code of its axis and its name test, composed with it: (x, y) is a pair of it
+// The table becomes that of a step, by its axis and its name test, composed with it: (x, y) is a pair of it
 // exactly if some z is one step from x and (z, y) was one. Where every node passes the test, none is asked.
-pub fn step(tree: &[u16], prev: &[u16], a: usize, name: usize, acc: &mut [u64])
-    requires { Linked tree.now prev.now × ((a ≤ 12) × (4 * size_of tree.now ≤ length acc.old)) }
+pub fn step(tree: &[u16], prev: &[u16], a: Axis, name: usize, acc: &mut [u64])
+    requires { Linked tree.now prev.now × (4 * size_of tree.now ≤ length acc.old) }
     ensures { Becomes (size_of tree.now)
-        (composed (size_of tree.now) (steps (tree_of tree.now) a name) (bit_relation acc.old))
+        (composed (size_of tree.now) (steps (tree_of tree.now) (axis_number a) name) (bit_relation acc.old))
         acc.old acc.new }
 {
     let all = steps::passes_all(tree, name);

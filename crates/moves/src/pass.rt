@@ -12,12 +12,7 @@ fn link_of(link: &[u16], y: usize) -> usize
     requires { 2 * y < length link.now }
     ensures { result ≡ lower (links link.now) y }
 {
-    let p = model::wide(link[2 * y]);
-    let linked = p < y;
-    if linked {
-        return p;
-    }
-    y
+    usize::from(link[2 * y]).min(y)
 }
 
 // One hop away from node 0: from the last row down, each becomes its link's.
@@ -25,12 +20,9 @@ pub fn hop_away(link: &[u16], n: usize, acc: &mut [u64])
     requires { (n ≤ 256) × ((2 * n ≤ length link.now) × (4 * n ≤ length acc.old)) }
     ensures { Moved n (hop (links link.now)) acc.old acc.new }
 {
-    let mut i = n;
-    while 0 < i {
-        let y = i - 1;
+    for y in (0..n).rev() {
         let p = link_of(link, y);
         crate::row::pull(acc, y, p);
-        i = y;
     }
 }
 
@@ -39,11 +31,9 @@ pub fn star_away(link: &[u16], n: usize, acc: &mut [u64])
     requires { (n ≤ 256) × ((2 * n ≤ length link.now) × (4 * n ≤ length acc.old)) }
     ensures { Moved n (star (links link.now)) acc.old acc.new }
 {
-    let mut y = 0;
-    while y < n {
+    for y in 0..n {
         let p = link_of(link, y);
         crate::row::join(acc, y, p);
-        y += 1;
     }
 }
 
@@ -52,12 +42,10 @@ pub fn hop_back(link: &[u16], n: usize, acc: &mut [u64])
     requires { (n ≤ 256) × ((2 * n ≤ length link.now) × (4 * n ≤ length acc.old)) }
     ensures { Moved n (turn true (hop (links link.now))) acc.old acc.new }
 {
-    let mut y = 0;
-    while y < n {
+    for y in 0..n {
         let p = link_of(link, y);
         crate::row::join(acc, p, y);
         crate::row::clear(acc, y);
-        y += 1;
     }
 }
 
@@ -66,11 +54,8 @@ pub fn star_back(link: &[u16], n: usize, acc: &mut [u64])
     requires { (n ≤ 256) × ((2 * n ≤ length link.now) × (4 * n ≤ length acc.old)) }
     ensures { Moved n (turn true (star (links link.now))) acc.old acc.new }
 {
-    let mut i = n;
-    while 0 < i {
-        let y = i - 1;
+    for y in (0..n).rev() {
         let p = link_of(link, y);
         crate::row::join(acc, p, y);
-        i = y;
     }
 }

@@ -11,16 +11,9 @@ pub fn join(w: &mut [u64], to: usize, from: usize)
     requires { (4 * to + 4 ≤ length w.old) × (4 * from + 4 ≤ length w.old) }
     ensures { RowBecomes to (joined_rows (bit_relation w.old) to from) w.old w.new }
 {
-    let i = 4 * to;
-    let j = 4 * from;
-    let a = w[i] | w[j];
-    let b = w[i + 1] | w[j + 1];
-    let c = w[i + 2] | w[j + 2];
-    let d = w[i + 3] | w[j + 3];
-    w[i] = a;
-    w[i + 1] = b;
-    w[i + 2] = c;
-    w[i + 3] = d;
+    let own = tables::row::get(w, to);
+    let both = tables::row::join(own, w, from);
+    tables::row::put(w, to, both);
 }
 
 // A row becomes another.
@@ -28,16 +21,8 @@ fn copy(w: &mut [u64], to: usize, from: usize)
     requires { (4 * to + 4 ≤ length w.old) × (4 * from + 4 ≤ length w.old) }
     ensures { RowBecomes to (bit_relation w.old from) w.old w.new }
 {
-    let i = 4 * to;
-    let j = 4 * from;
-    let a = w[j];
-    let b = w[j + 1];
-    let c = w[j + 2];
-    let d = w[j + 3];
-    w[i] = a;
-    w[i + 1] = b;
-    w[i + 2] = c;
-    w[i + 3] = d;
+    let other = tables::row::get(w, from);
+    tables::row::put(w, to, other);
 }
 
 // A row becomes empty.
@@ -45,11 +30,7 @@ pub fn clear(w: &mut [u64], x: usize)
     requires { 4 * x + 4 ≤ length w.old }
     ensures { RowBecomes x (always false) w.old w.new }
 {
-    let i = 4 * x;
-    w[i] = 0;
-    w[i + 1] = 0;
-    w[i + 2] = 0;
-    w[i + 3] = 0;
+    tables::row::put(w, x, [0u64; 4]);
 }
 
 // A row becomes a lower one, or empty where the other is not lower.

@@ -10,7 +10,7 @@ use lib.ListN.{length, get_or}
 use lib.Dec.{eqb, eqb-suc-suc}
 use borrow.Author.Tests.{eqb-true, not-false}
 use Rattle.names.specs.declared.Table.{Table}
-use Rattle.names.specs.declared.Found.TheVariants.{At, Past}
+use Rattle.std.specs.Prelude.{Ok, Err}
 use Rattle.names.specs.Names.{bad_length, malformed_from, malformed, names_from, part, found}
 
 -- the position after a name whose length byte is first, or further on
@@ -82,14 +82,14 @@ no_names w (b ∷ bs) from (suc at) l = no_names w bs (suc from) at (le_of_suc-l
 -- the loop that looks for a name: so many are left to pass in what stands from `at` on
 module _ (w : Table) (t : List ℕ) (number at left : ℕ) where
   pub here : (len : ℕ) → found (names_from w 0 at t) left ≡ found (names_from w 0 0 t) number → at < length t → len ≡ get_or t at 0 → left ≡ 0
-      → At (part w (at + 1) len) ≡ found (names_from w 0 0 t) number
+      → Ok (part w (at + 1) len) ≡ found (names_from w 0 0 t) number
   unfolding found
   here len i l e z = sym i' ∙ i
     where
       first : (x : ℕ) → 0 + x + 1 ≡ x + 1
       first x = omega arith
 
-      i' : found (names_from w 0 at t) left ≡ At (part w (at + 1) len)
+      i' : found (names_from w 0 at t) left ≡ Ok (part w (at + 1) len)
       i' = rw (z, name_there w t 0 at l, first at, e)
 
   pub later : (len : ℕ) → found (names_from w 0 at t) left ≡ found (names_from w 0 0 t) number → at < length t → len ≡ get_or t at 0 → (left ≡ 0 → ⊥)
@@ -104,6 +104,6 @@ module _ (w : Table) (t : List ℕ) (number at left : ℕ) where
           less : (k : ℕ) → suc k - 1 ≡ k
           less k = omega arith
 
-  pub ended : found (names_from w 0 at t) left ≡ found (names_from w 0 0 t) number → length t ≤ at → Past left ≡ found (names_from w 0 0 t) number
+  pub ended : found (names_from w 0 at t) left ≡ found (names_from w 0 0 t) number → length t ≤ at → Err left ≡ found (names_from w 0 0 t) number
   unfolding found
   ended i l = sym (rw (no_names w t 0 at l)) ∙ i

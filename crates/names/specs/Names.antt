@@ -1,16 +1,13 @@
 -- Tag names (document 01). A name table (document 01: a vocabulary) is a run of names, each a length byte and that many bytes.
 -- Two tables are lent, the house's and the site's, and tags count through their names.
-use Rattle.std.specs.Prelude.{ℕ, zero, suc, ◌+◌, ◌≡◌, Bool, not, ◌||◌, cond, List, [], ◌∷◌, ◌++◌, length, take, drop, get_or, ltb, eqb}
+use Rattle.std.specs.Prelude.{ℕ, zero, suc, ◌+◌, ◌≡◌, Bool, not, ◌||◌, cond, List, [], ◌∷◌, ◌++◌, Result, Ok, Err, length, take, drop, get_or, ltb, eqb}
 use Rattle.std.specs.Borrow.{Bor}
-use Rattle.model.specs.Refusals.{Check, refuse, refuse_here, reply, verdict}
+use Rattle.model.specs.Refusals.{Check, refuse, refuse_here, reply, refused, verdict}
 use Rattle.model.specs.declared.Reply.{Reply}
+use Rattle.model.specs.declared.refusal.Refusal.{Refusal}
 use Rattle.names.specs.declared.Table.{Table}
 use Rattle.names.specs.declared.Table.TheVariants.{House, Site}
 use Rattle.names.specs.declared.Part.{Part}
-use Rattle.names.specs.declared.Found.{Found}
-use Rattle.names.specs.declared.Found.TheVariants.{At, Past}
-use Rattle.names.specs.declared.Lookup.{Lookup}
-use Rattle.names.specs.declared.Lookup.TheVariants.{Named, Refused}
 
 -- a length byte is not 1 to 32
 abbrev pub bad_length : ℕ → Bool
@@ -88,22 +85,22 @@ pub record IsPart (house site r : Bor (List ℕ)) (p : Part) : Type 0 where
 -- what the code's cases stand for
 
 -- name number k of a list; past its end, how many are still to pass
-unfoldable pub found : List Part → ℕ → Found
-found [] k = Past k
-found (p ∷ ps) zero = At p
+unfoldable pub found : List Part → ℕ → Result Part ℕ
+found [] k = Err k
+found (p ∷ ps) zero = Ok p
 found (p ∷ ps) (suc k) = found ps k
 
 -- the reply of a request
-abbrev pub reply_of : Lookup → Reply
-reply_of (Named p) = reply 0 0
-reply_of (Refused r) = r
+abbrev pub reply_of : Result Part Refusal → Reply
+reply_of (Ok p) = reply 0 0
+reply_of (Err e) = refused e
 
 -- the part that it is given
-abbrev pub part_of : Lookup → Part
-part_of (Named p) = p
-part_of (Refused r) = nothing
+abbrev pub part_of : Result Part Refusal → Part
+part_of (Ok p) = p
+part_of (Err e) = nothing
 
--- the case is right: its reply is the verdict, and its part the name or nothing
-pub record Decided (house site : List ℕ) (tag : ℕ) (l : Lookup) : Type 0 where
+-- what a request comes to is right: its reply is the verdict, and its part the name or nothing
+pub record Decided (house site : List ℕ) (tag : ℕ) (l : Result Part Refusal) : Type 0 where
   pub replied : reply_of l ≡ verdict (name_checks house site tag)
   pub given : part_of l ≡ part_for house site tag

@@ -1,29 +1,32 @@
 -- What is evaluated: a part that no variable decides, once for all rows, and what is left, for a row.
-use Prim.Native.Nat.{ℕ, zero, suc, ◌≤◌, ◌<◌}
+use Prim.Native.Nat.{ℕ, zero, suc, ◌≤◌}
 use native.Mathlib.Omega.{arith}
 use mathlib.Core.Path.{◌≡◌, refl, sym, ap, ◌∙◌}
 use mathlib.Core.Bool.{Bool, true, false, not, ◌&&◌}
 use mathlib.Core.List.{List, [], ◌∷◌}
 use lib.Dec.{eqb}
 use lib.ListN.{length, take, replicate, length-replicate}
-use Rattle.model.specs.Sets.{any, tab, ones, memb, upto, image}
+use Rattle.model.specs.Sets.{any, tab, ones, memb, image}
 use Rattle.model.specs.Tree.{size_of, tree_of}
 use Rattle.model.specs.QueryTable.{entries_of, path_at, expr_at}
 use Rattle.model.specs.Meaning.{pairs, holds}
 use Rattle.model.specs.Results.{assigned, related}
-use Rattle.model.specs.Answers.{Row, satisfied}
+use Rattle.model.specs.Answers.{satisfied}
 use Rattle.model.specs.Accepted.{Below}
-use Rattle.model.proofs.Bytes.{memb_tab, fill_end}
+use Rattle.model.proofs.Bytes.{memb_tab}
 use Rattle.model.proofs.Exists.{any_cong}
 use Rattle.model.proofs.Counts.{ones_front, ones_any}
 use Rattle.sets.specs.NodeSets.{combination, combine}
-use Rattle.sets.proofs.Images.{upto_cong, image_turned, image_from}
+use Rattle.sets.proofs.Images.{upto_cong, image_turned}
 use Rattle.eval.specs.Evaluation.{Ready, passing, passed, reached}
 use Rattle.eval.proofs.Entries.{small}
 use Rattle.pruning.proofs.Fixed.{fixed_path, fixed_expr}
 use Rattle.engines.specs.Engines.{Suits, Searchable}
-use Rattle.narrowing.specs.Narrowing.{Core, Decided, AlwaysReached, AlwaysPassed, common}
-use Rattle.narrowing.proofs.Between.{common_cong, common_all, by_image, by_none}
+use lib.Seq.{length-take-le}
+use Rattle.std.specs.Prelude.{Some, None}
+use Rattle.narrowing.specs.declared.Narrowed.{Narrowed}
+use Rattle.narrowing.specs.Narrowing.{CoreOf, Decided, AlwaysReached, AlwaysPassed, common}
+use Rattle.narrowing.proofs.Between.{common_all, by_image, by_none}
 use Rattle.narrowing.proofs.Cores.{ready_at, zeros_below}
 
 -- what no variable decides
@@ -56,51 +59,49 @@ always_passed {t = t} {q = q} {e = e} r nodes p d row =
     p ∙ upto_cong (size_of t) d.searchable.linked.tree.sound.at_most (holds (tree_of t) (assigned nodes) (expr_at q e)) (holds (tree_of t) (assigned row) (expr_at q e))
     (λ x l. fixed_expr (tree_of t) (assigned nodes) (assigned row) q e d.kinds.sort d.fixed x)
 
--- sets that are lent
+-- two sets
 
-pub loaded : (s b : List ℕ) → s ≡ tab 256 (upto (length b) (memb b)) → length b ≡ 256 → (x : ℕ) → x < 256 → memb s x ≡ memb b x
-loaded s b p h x l = rw (p, h, fill_end 256 (memb b)) (memb_tab 256 (memb b) x l)
-
-pub did_meet : (n : ℕ) (a b both s : List ℕ) (r : Bool) → r ≡ any n (memb both) → both ≡ tab 256 (combination 1 a s) → s ≡ tab 256 (upto (length b) (memb b)) → length b ≡ 256 → n ≤ 256 → r ≡ common n a b
+pub did_meet : (n : ℕ) (a b both : List ℕ) (r : Bool) → r ≡ any n (memb both) → both ≡ tab 256 (combination 1 a b) → n ≤ 256 → r ≡ common n a b
 unfolding common combination combine
-did_meet n a b both s r p c l h le =
+did_meet n a b both r p c le =
     p ∙ ap (λ (z : List ℕ). any n (memb z)) c
-    ∙ any_cong n _ _ (λ x k. memb_tab 256 (λ x. memb a x && memb s x) x (omega arith) ∙ rw (loaded s b l h x (omega arith)))
+    ∙ any_cong n _ _ (λ x k. memb_tab 256 (λ x. memb a x && memb b x) x (omega arith))
 
 -- a row
 
-module _ {t v q : List ℕ} {k e : ℕ} {cut : Bool} {from to : List ℕ} (ok : Searchable t v q k) (c : Core t q k e cut from to) (row : Row) (start : List ℕ) (rl : length row ≡ k) (rb : Below (size_of t) row)
-    (sl : start ≡ tab 256 (upto (length from) (memb from))) where
-  ready_row : Ready t v q row
-  ready_row = ready_at ok row rl rb
+module _ {t v q : List ℕ} {k : ℕ} (ok : Searchable t v q k) (left : Narrowed) (c : CoreOf t q k left) (w : List ℕ) (three : length w ≡ 3) (rb : Below (size_of t) (take k w)) where
+  long : length (take k w) ≡ k
+  long = length-take-le k w (omega (arith, ok.most))
 
-  same_start : (x : ℕ) → x < size_of t → memb from x ≡ memb start x
-  same_start x l = sym (loaded start from sl c.from_size x (omega (arith, small ready_row)))
+  ready_row : Ready t v q (take k w)
+  ready_row = ready_at ok (take k w) long rb
 
   -- nothing left: the sets meet or not
-  pub holds_none : (r : Bool) → r ≡ common (size_of t) start to → entries_of q ≤ e → r ≡ satisfied t q row
-  holds_none r p h =
-      p ∙ sym (c.holds row rl rb ∙ by_none ready_row from to e h ∙ common_cong (size_of t) from to start to same_start (λ x l. refl))
+  pub holds_none : left.entry ≡ None → (r : Bool) → r ≡ common (size_of t) left.from left.to → r ≡ satisfied t q (take k w)
+  holds_none is r p =
+      let d : CoreOf t q k (record { entry = None; cut = left.cut; from = left.from; to = left.to }) = rw is at c in
+      p ∙ sym (d.0.holds (take k w) long rb ∙ by_none ready_row left.from left.to (entries_of q) (omega arith))
 
-  pub suits_row : e < entries_of q → Suits t v q row e true
-  suits_row em = record { ready = ready_row; kinds = record { within = em; sort = c.path em }; few = ok.few; five = c.five em }
+  module _ (e : ℕ) (is : left.entry ≡ Some e) where
+    some : CoreOf t q k (record { entry = Some e; cut = left.cut; from = left.from; to = left.to })
+    some = rw is at c
 
-  module _ (em : e < entries_of q) (ends : List ℕ) (p : ends ≡ reached t q row e false start) where
-    held : satisfied t q row ≡ common (size_of t) ends to
-    unfolding reached
-    held =
-        c.holds row rl rb
-        ∙ by_image ready_row from to e em
-        ∙ ap (λ (z : List ℕ). common (size_of t) z to) (image_from (size_of t) (small ready_row) (related t q row e false) (memb from) (memb start) same_start ∙ sym p)
+    pub suits_row : Suits t v q (take k w) e true
+    suits_row = record { ready = ready_row; kinds = record { within = some.1; sort = some.0.path some.1 }; few = ok.few; five = some.0.five some.1 }
 
-    -- the set that is reached meets the end, or has a node where that is all nodes
+    module _ (ends : List ℕ) (p : ends ≡ reached t q (take k w) e false left.from) where
+      held : satisfied t q (take k w) ≡ common (size_of t) ends left.to
+      unfolding reached
+      held = some.0.holds (take k w) long rb ∙ by_image ready_row left.from left.to e some.1 ∙ ap (λ (z : List ℕ). common (size_of t) z left.to) (sym p)
 
-    pub holds_cut : (r : Bool) → r ≡ common (size_of t) ends to → r ≡ satisfied t q row
-    holds_cut r d = d ∙ sym held
+      -- the set that is reached meets the end, or has a node where that is all nodes
 
-    pub holds_count : (count : ℕ) → count ≡ ones ends → cut ≡ false → not (eqb count 0) ≡ satisfied t q row
-    unfolding reached image
-    holds_count count d z =
-        ap (λ (j : ℕ). not (eqb j 0)) (d ∙ ones_front (size_of t) _ ends p (small ready_row))
-        ∙ ones_any (memb ends) (size_of t)
-        ∙ sym (held ∙ common_all (size_of t) ends to (small ready_row) (c.uncut z))
+      pub holds_cut : (r : Bool) → r ≡ common (size_of t) ends left.to → r ≡ satisfied t q (take k w)
+      holds_cut r d = d ∙ sym held
+
+      pub holds_count : (count : ℕ) → count ≡ ones ends → left.cut ≡ false → not (eqb count 0) ≡ satisfied t q (take k w)
+      unfolding reached image
+      holds_count count d z =
+          ap (λ (j : ℕ). not (eqb j 0)) (d ∙ ones_front (size_of t) _ ends p (small ready_row))
+          ∙ ones_any (memb ends) (size_of t)
+          ∙ sym (held ∙ common_all (size_of t) ends left.to (small ready_row) (some.0.uncut z))

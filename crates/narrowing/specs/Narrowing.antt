@@ -1,5 +1,5 @@
 -- The part of a query that its variables decide: what is left of it where all else is evaluated once, for every row.
-use Rattle.std.specs.Prelude.{ℕ, ◌≤◌, ◌<◌, ◌≡◌, Bool, true, false, ◌&&◌, cond, List, ltb, eqb, length}
+use Rattle.std.specs.Prelude.{ℕ, ◌≤◌, ◌<◌, ◌≡◌, Bool, true, false, ◌&&◌, cond, List, ltb, eqb, length, Option, Some, None}
 use Rattle.model.specs.Sets.{any, tab, memb, upto}
 use Rattle.model.specs.Tree.{size_of}
 use Rattle.model.specs.QueryTable.{entries_of, kind}
@@ -13,6 +13,11 @@ use Rattle.aside.specs.Aside.{NumbersTo, aside_at}
 use Rattle.pruning.specs.Pruning.{reach_at}
 use Rattle.engines.specs.Engines.{Searchable}
 use Rattle.narrowing.specs.declared.Narrowed.{Narrowed}
+use Rattle.narrowing.specs.declared.Search.{Search}
+
+-- a search is one of a query that can be searched
+abbrev pub Searches : Search → Type 0
+Searches s = Searchable s.tree.now s.prev.now s.query.now s.k
 
 -- a pair of the path at entry e, or each node with itself where e is past the entries: nothing is left
 unfoldable pub linked : List ℕ → List ℕ → Row → ℕ → ℕ → ℕ → Bool
@@ -33,22 +38,37 @@ pub record Core (t q : List ℕ) (k e : ℕ) (cut : Bool) (from to : List ℕ) :
   pub from_size : length from ≡ 256
   pub to_size : length to ≡ 256
 
+-- the entry that is left, or the number of entries where nothing is
+abbrev pub entry_of : List ℕ → Option ℕ → ℕ
+entry_of q None = entries_of q
+entry_of q (Some e) = e
+
+-- an entry that is left is one of the query
+abbrev pub Within : List ℕ → Option ℕ → Type 0
+Within q None = Unit
+Within q (Some e) = e < entries_of q
+
 -- the same of a result of the code
 abbrev pub CoreOf : List ℕ → List ℕ → ℕ → Narrowed → Type 0
-CoreOf t q k r = Core t q k r.entry r.cut r.from r.to
+CoreOf t q k r = Core t q k (entry_of q r.entry) r.cut r.from r.to × Within q r.entry
 
 -- What the code goes through.
 
--- an entry of the query is left
-pub record Left (t prev q : List ℕ) (k : ℕ) (at : Narrowed) : Type 0 where
+-- entry e of the query is left
+pub record Left (t prev q : List ℕ) (k e : ℕ) (at : Narrowed) : Type 0 where
   pub searchable : Searchable t prev q k
-  pub core : CoreOf t q k at
-  pub some : at.entry < entries_of q
+  pub core : Core t q k e at.cut at.from at.to
+  pub some : e < entries_of q
 
 -- the same, with the variables of each entry
-pub record Going (t prev q : List ℕ) (k : ℕ) (reaches : List ℕ) (at : Narrowed) : Type 0 where
-  pub left : Left t prev q k at
+pub record Going (t prev q : List ℕ) (k : ℕ) (reaches : List ℕ) (e : ℕ) (at : Narrowed) : Type 0 where
+  pub left : Left t prev q k e at
   pub variables : NumbersTo (reach_at q) (entries_of q) reaches
+
+-- what is left of entry e one entry inwards, which is a lower entry; nothing is said where it cannot be narrowed
+abbrev pub Inward : List ℕ → List ℕ → ℕ → ℕ → Option Narrowed → Type 0
+Inward t q k e None = Unit
+Inward t q k e (Some next) = CoreOf t q k next × (entry_of q next.entry < e)
 
 -- entry e, a path where the flag is set and else a node expression, can be evaluated, and no variable decides it
 pub record Decided (t prev q : List ℕ) (k e : ℕ) (path : Bool) : Type 0 where

@@ -6,312 +6,259 @@
 // the caller decides, says which engine evaluates.
 #![tactic(auto)]
 
-ghost use Rattle.std.specs.Prelude.{◌≡◌, true, false, ◌≤◌, length, take};
+ghost use Rattle.std.specs.Prelude.{◌≡◌, true, false, ◌<◌, ◌≤◌, eqb, take};
 ghost use Rattle.model.specs.Tree.{size_of};
-ghost use Rattle.model.specs.QueryTable.{kind};
+ghost use Rattle.model.specs.QueryTable.{entries_of, kind};
 ghost use Rattle.model.specs.Answers.{satisfied};
 ghost use Rattle.model.specs.Accepted.{Below};
+ghost use Rattle.aside.specs.Aside.{NumbersTo};
 ghost use Rattle.pruning.specs.Pruning.{Named, reach_at};
 ghost use Rattle.engines.specs.Engines.{Searchable};
-ghost use Rattle.narrowing.specs.Narrowing.{Core, CoreOf, Left, Going, Decided, AlwaysReached, AlwaysPassed, common};
+ghost use Rattle.narrowing.specs.Narrowing.{Searches, CoreOf, Left, Going, Inward, Decided, AlwaysReached, AlwaysPassed, common};
 
-// What is left of a query: the path at an entry, or nothing where that is the number of entries; the nodes that it starts from, and
-// those that it may end at, all nodes where they are not cut.
+use model::{Call, Kind};
+
+// What is searched for rows: a query of k variables over a tree with its links, by whole tables or over sets (crate `engines`).
+#[derive(Clone, Copy)]
+pub struct Search<'a> {
+    pub tree: &'a [u16],
+    pub prev: &'a [u16],
+    pub query: &'a [u16],
+    pub whole: bool,
+    pub k: usize,
+}
+
+// What is left of a query: the path at an entry, or nothing; the nodes that it starts from, and those that it may end at. `cut` says
+// whether the latter may be other than all nodes: they are read in either case, but uncut, how many nodes are reached tells as well.
 #[derive(Clone, Copy)]
 pub struct Narrowed {
-    pub entry: usize,
+    pub entry: Option<usize>,
     pub cut: bool,
     pub from: [u8; 256],
     pub to: [u8; 256],
 }
 
-// What no variable decides, evaluated with node 0 for each of them.
-
-// What a set reaches by a path, or what reaches the set where back is set. One evaluation.
-fn image(
-    tree: &[u16],
-    prev: &[u16],
-    query: &[u16],
-    whole: bool,
-    k: usize,
-    e: usize,
-    back: bool,
-    from: [u8; 256],
-) -> [u8; 256]
-    requires { Decided tree.now prev.now query.now k e true }
-    ensures { AlwaysReached tree.now query.now e back from result }
-{
-    let zeros = [0u16; 3];
-    let mut found = 0;
-    engines::image(
-        tree,
-        prev,
-        query,
-        &zeros[..k],
-        whole,
-        e,
-        back,
-        from,
-        &mut found,
-    )
-}
-
-// The nodes where a node expression holds. One evaluation.
-fn node(tree: &[u16], prev: &[u16], query: &[u16], whole: bool, k: usize, e: usize) -> [u8; 256]
-    requires { Decided tree.now prev.now query.now k e false }
-    ensures { AlwaysPassed tree.now query.now e result }
-{
-    let zeros = [0u16; 3];
-    let mut found = 0;
-    engines::node(tree, prev, query, &zeros[..k], whole, e, &mut found)
-}
-
-// One entry inwards. What cannot be narrowed is returned as it is.
-
-// A composition: an operand that no variable decides is evaluated from the set at its side, and the other operand is left.
-fn composition(
-    tree: &[u16],
-    prev: &[u16],
-    query: &[u16],
-    whole: bool,
-    k: usize,
+// A search on its way inwards, with how many variables stand in each entry (crate `pruning`).
+#[derive(Drop)]
+struct Descent<'a> {
+    search: Search<'a>,
     reaches: [u8; 66],
-    at: Narrowed,
-) -> Narrowed
-    requires { Going tree.now prev.now query.now k reaches at
-        × (kind query.now at.entry ≡ 1) }
-    ensures { CoreOf tree.now query.now k result }
-{
-    let e = at.entry;
-    let f = query::entry_at(query, e);
-    let l = f.left;
-    let r = f.right;
-    let from = at.from;
-    let to = at.to;
-    let a = reaches[l];
-    if a == 0 {
-        let start = image(tree, prev, query, whole, k, l, false, from);
-        return Narrowed {
-            entry: r,
+}
+
+impl<'a> Search<'a> {
+    // What no variable decides, evaluated with node 0 for each of them.
+
+    // What a set reaches by a path, or what reaches the set where back is set. One evaluation.
+    fn image(&self, e: usize, back: bool, from: [u8; 256]) -> [u8; 256]
+        requires { Decided self.now.tree.now self.now.prev.now self.now.query.now self.now.k e true }
+        ensures { AlwaysReached self.now.tree.now self.now.query.now e back from result }
+    {
+        let zeros = [0u16; 3];
+        let call = Call {
+            tree: self.tree,
+            prev: self.prev,
+            query: self.query,
+            nodes: &zeros[..self.k],
+        };
+        let mut found = 0;
+        engines::image(&call, self.whole, e, back, from, &mut found)
+    }
+
+    // The nodes where a node expression holds. One evaluation.
+    fn node(&self, e: usize) -> [u8; 256]
+        requires { Decided self.now.tree.now self.now.prev.now self.now.query.now self.now.k e false }
+        ensures { AlwaysPassed self.now.tree.now self.now.query.now e result }
+    {
+        let zeros = [0u16; 3];
+        let call = Call {
+            tree: self.tree,
+            prev: self.prev,
+            query: self.query,
+            nodes: &zeros[..self.k],
+        };
+        let mut found = 0;
+        engines::node(&call, self.whole, e, &mut found)
+    }
+
+    // An entry that no variable decides: where it leads is known, and nothing is left.
+    fn nothing_left(&self, e: usize, at: &Narrowed) -> Narrowed
+        requires { Left self.now.tree.now self.now.prev.now self.now.query.now self.now.k e at.now
+            × (reach_at self.now.query.now e ≡ 0) }
+        ensures { CoreOf self.now.tree.now self.now.query.now self.now.k result }
+    {
+        let start = self.image(e, false, at.from);
+        Narrowed {
+            entry: None,
             cut: at.cut,
             from: start,
-            to: to,
-        };
-    }
-    let b = reaches[r];
-    if b == 0 {
-        let end = image(tree, prev, query, whole, k, r, true, to);
-        return Narrowed {
-            entry: l,
-            cut: true,
-            from: from,
-            to: end,
-        };
-    }
-    at
-}
-
-// A filter whose node expression no variable decides: its path is left, and may end only where that holds.
-fn filter(
-    tree: &[u16],
-    prev: &[u16],
-    query: &[u16],
-    whole: bool,
-    k: usize,
-    reaches: [u8; 66],
-    at: Narrowed,
-) -> Narrowed
-    requires { Going tree.now prev.now query.now k reaches at
-        × (kind query.now at.entry ≡ 5) }
-    ensures { CoreOf tree.now query.now k result }
-{
-    let e = at.entry;
-    let f = query::entry_at(query, e);
-    let r = f.right;
-    let from = at.from;
-    let to = at.to;
-    let b = reaches[r];
-    if b == 0 {
-        let s = node(tree, prev, query, whole, k, r);
-        let end = sets::combined(sets::INTERSECTION, to, s);
-        return Narrowed {
-            entry: f.left,
-            cut: true,
-            from: from,
-            to: end,
-        };
-    }
-    at
-}
-
-// A path from the root: its operand is left, from node 0, if there is a node to start from.
-fn root(tree: &[u16], prev: &[u16], query: &[u16], k: usize, at: Narrowed) -> Narrowed
-    requires { Left tree.now prev.now query.now k at
-        × (kind query.now at.entry ≡ 7) }
-    ensures { CoreOf tree.now query.now k result }
-{
-    let e = at.entry;
-    let f = query::entry_at(query, e);
-    let from = at.from;
-    let to = at.to;
-    let some = sets::occupied(tree.len() / 2, from);
-    let start = sets::full_if(some, 1);
-    Narrowed {
-        entry: f.left,
-        cut: at.cut,
-        from: start,
-        to: to,
-    }
-}
-
-// By the kind of the entry.
-fn inwards(
-    tree: &[u16],
-    prev: &[u16],
-    query: &[u16],
-    whole: bool,
-    k: usize,
-    reaches: [u8; 66],
-    at: Narrowed,
-) -> Narrowed
-    requires { Going tree.now prev.now query.now k reaches at }
-    ensures { CoreOf tree.now query.now k result }
-{
-    let e = at.entry;
-    let f = query::entry_at(query, e);
-    let kind = f.kind;
-    if kind == 1 {
-        return composition(tree, prev, query, whole, k, reaches, at);
-    }
-    if kind == 5 {
-        return filter(tree, prev, query, whole, k, reaches, at);
-    }
-    if kind == 7 {
-        return root(tree, prev, query, k, at);
-    }
-    at
-}
-
-// As far inwards as it goes. Each turn but the last leaves an operand, which is a lower entry.
-fn innermost(
-    tree: &[u16],
-    prev: &[u16],
-    query: &[u16],
-    whole: bool,
-    k: usize,
-    reaches: [u8; 66],
-    start: Narrowed,
-) -> Narrowed
-    requires { Going tree.now prev.now query.now k reaches start }
-    ensures { CoreOf tree.now query.now k result }
-{
-    let mut at = start;
-    loop {
-        let next = inwards(tree, prev, query, whole, k, reaches, at);
-        let lower = next.entry < at.entry;
-        if !lower {
-            return at;
+            to: at.to,
         }
-        at = next;
+    }
+
+    // What the variables decide of the query. At most one evaluation of each entry.
+    pub fn narrow(&self) -> Narrowed
+        requires { Searches self.now × Named self.now.query.now }
+        ensures { CoreOf self.now.tree.now self.now.query.now self.now.k result }
+    {
+        let last = self.query.len() / 4 - 1;
+        let all = sets::full(self.tree.len() / 2);
+        let start = Narrowed {
+            entry: Some(last),
+            cut: false,
+            from: all,
+            to: all,
+        };
+        let descent = Descent {
+            search: *self,
+            reaches: pruning::reaches(self.query),
+        };
+        let decided = descent.is_fixed(last);
+        if decided {
+            return self.nothing_left(last, &start);
+        }
+        descent.innermost(start)
+    }
+
+    // The query is satisfied under a row. One evaluation of what is left of it, by whole tables where the flag is set; where the end is not
+    // cut, the number of nodes that it reaches tells.
+    pub fn holds(&self, whole: bool, left: &Narrowed, row: [u16; 3]) -> bool
+        requires { Searches self.now
+            × (CoreOf self.now.tree.now self.now.query.now self.now.k left.now
+            × Below (size_of self.now.tree.now) (take self.now.k row)) }
+        ensures { result ≡ satisfied self.now.tree.now self.now.query.now (take self.now.k row) }
+    {
+        let n = self.tree.len() / 2;
+        let Some(e) = left.entry else {
+            return meet(n, left.from, left.to);
+        };
+        let call = Call {
+            tree: self.tree,
+            prev: self.prev,
+            query: self.query,
+            nodes: &row[..self.k],
+        };
+        let mut found = 0;
+        let ends = engines::image(&call, whole, e, false, left.from, &mut found);
+        if !left.cut {
+            return found != 0;
+        }
+        meet(n, ends, left.to)
     }
 }
 
-// An entry that no variable decides: where it leads is known, and nothing is left.
-fn nothing_left(
-    tree: &[u16],
-    prev: &[u16],
-    query: &[u16],
-    whole: bool,
-    k: usize,
-    at: Narrowed,
-) -> Narrowed
-    requires { Left tree.now prev.now query.now k at
-        × (reach_at query.now at.entry ≡ 0) }
-    ensures { CoreOf tree.now query.now k result }
-{
-    let e = at.entry;
-    let from = at.from;
-    let to = at.to;
-    let start = image(tree, prev, query, whole, k, e, false, from);
-    Narrowed {
-        entry: query.len() / 4,
-        cut: at.cut,
-        from: start,
-        to: to,
+// One entry inwards, or `None` where it cannot be narrowed.
+impl<'a> Descent<'a> {
+    // No variable decides an entry.
+    fn is_fixed(&self, e: usize) -> bool
+        requires { NumbersTo (reach_at self.now.search.query.now) (entries_of self.now.search.query.now) self.now.reaches
+            × ((e < entries_of self.now.search.query.now) × (entries_of self.now.search.query.now ≤ 66)) }
+        ensures { result ≡ eqb (reach_at self.now.search.query.now e) 0 }
+    {
+        self.reaches[e] == 0
+    }
+
+    // A composition: an operand that no variable decides is evaluated from the set at its side, and the other operand is left.
+    fn composition(&self, e: usize, at: &Narrowed) -> Option<Narrowed>
+        requires { Going self.now.search.tree.now self.now.search.prev.now self.now.search.query.now self.now.search.k self.now.reaches e at.now
+            × (kind self.now.search.query.now e ≡ 1) }
+        ensures { Inward self.now.search.tree.now self.now.search.query.now self.now.search.k e result }
+    {
+        let f = query::entry_at(self.search.query, e);
+        if self.is_fixed(f.left) {
+            let start = self.search.image(f.left, false, at.from);
+            return Some(Narrowed {
+                entry: Some(f.right),
+                cut: at.cut,
+                from: start,
+                to: at.to,
+            });
+        }
+        if self.is_fixed(f.right) {
+            let end = self.search.image(f.right, true, at.to);
+            return Some(Narrowed {
+                entry: Some(f.left),
+                cut: true,
+                from: at.from,
+                to: end,
+            });
+        }
+        None
+    }
+
+    // A filter whose node expression no variable decides: its path is left, and may end only where that holds.
+    fn filter(&self, e: usize, at: &Narrowed) -> Option<Narrowed>
+        requires { Going self.now.search.tree.now self.now.search.prev.now self.now.search.query.now self.now.search.k self.now.reaches e at.now
+            × (kind self.now.search.query.now e ≡ 5) }
+        ensures { Inward self.now.search.tree.now self.now.search.query.now self.now.search.k e result }
+    {
+        let f = query::entry_at(self.search.query, e);
+        if self.is_fixed(f.right) {
+            let s = self.search.node(f.right);
+            let end = sets::combined(sets::Operation::Intersection, at.to, s);
+            return Some(Narrowed {
+                entry: Some(f.left),
+                cut: true,
+                from: at.from,
+                to: end,
+            });
+        }
+        None
+    }
+
+    // A path from the root: its operand is left, from node 0, if there is a node to start from.
+    fn root(&self, e: usize, at: &Narrowed) -> Option<Narrowed>
+        requires { Going self.now.search.tree.now self.now.search.prev.now self.now.search.query.now self.now.search.k self.now.reaches e at.now
+            × (kind self.now.search.query.now e ≡ 7) }
+        ensures { Inward self.now.search.tree.now self.now.search.query.now self.now.search.k e result }
+    {
+        let f = query::entry_at(self.search.query, e);
+        let some = sets::occupied(self.search.tree.len() / 2, at.from);
+        let start = sets::full_if(some, 1);
+        Some(Narrowed {
+            entry: Some(f.left),
+            cut: at.cut,
+            from: start,
+            to: at.to,
+        })
+    }
+
+    // By the kind of the entry.
+    fn inwards(&self, e: usize, at: &Narrowed) -> Option<Narrowed>
+        requires { Going self.now.search.tree.now self.now.search.prev.now self.now.search.query.now self.now.search.k self.now.reaches e at.now }
+        ensures { Inward self.now.search.tree.now self.now.search.query.now self.now.search.k e result }
+    {
+        let f = query::entry_at(self.search.query, e);
+        match model::kind_of(f.kind) {
+            Kind::Compose => self.composition(e, at),
+            Kind::Filter => self.filter(e, at),
+            Kind::Root => self.root(e, at),
+            _ => None,
+        }
+    }
+
+    // As far inwards as it goes. Each turn but the last leaves an operand, which is a lower entry.
+    fn innermost(&self, start: Narrowed) -> Narrowed
+        requires { Searches self.now.search
+            × (NumbersTo (reach_at self.now.search.query.now) (entries_of self.now.search.query.now) self.now.reaches
+            × CoreOf self.now.search.tree.now self.now.search.query.now self.now.search.k start) }
+        ensures { CoreOf self.now.search.tree.now self.now.search.query.now self.now.search.k result }
+    {
+        let mut at = start;
+        while let Some(e) = at.entry {
+            let Some(next) = self.inwards(e, &at) else {
+                return at;
+            };
+            at = next;
+        }
+        at
     }
 }
-
-// What the variables decide of a query of k variables, over a tree. At most one evaluation of each entry.
-pub fn narrow(tree: &[u16], prev: &[u16], query: &[u16], whole: bool, k: usize) -> Narrowed
-    requires { Searchable tree.now prev.now query.now k × Named query.now }
-    ensures { Core tree.now query.now k result.entry result.cut result.from result.to }
-{
-    let last = query.len() / 4 - 1;
-    let all = sets::full(tree.len() / 2);
-    let reaches = pruning::reaches(query);
-    let start = Narrowed {
-        entry: last,
-        cut: false,
-        from: all,
-        to: all,
-    };
-    let v = reaches[last];
-    if v == 0 {
-        return nothing_left(tree, prev, query, whole, k, start);
-    }
-    innermost(tree, prev, query, whole, k, reaches, start)
-}
-
-// A row.
 
 // A node below n is in both sets.
-fn meet(n: usize, a: [u8; 256], b: &[u8]) -> bool
-    requires { (n ≤ 256) × (length b.now ≡ 256) }
-    ensures { result ≡ common n a b.now }
+fn meet(n: usize, a: [u8; 256], b: [u8; 256]) -> bool
+    requires { n ≤ 256 }
+    ensures { result ≡ common n a b }
 {
-    let both = sets::combined(sets::INTERSECTION, a, sets::load(b));
+    let both = sets::combined(sets::Operation::Intersection, a, b);
     sets::occupied(n, both)
-}
-
-// The query is satisfied under a row. One evaluation of what is left of it; where the end is not cut, the number of nodes that it
-// reaches tells.
-pub fn holds(
-    tree: &[u16],
-    prev: &[u16],
-    query: &[u16],
-    whole: bool,
-    entry: usize,
-    cut: bool,
-    from: &[u8],
-    to: &[u8],
-    k: usize,
-    row: [u16; 3],
-) -> bool
-    requires { Searchable tree.now prev.now query.now k
-        × (Core tree.now query.now k entry cut from.now to.now
-        × Below (size_of tree.now) (take k row)) }
-    ensures { result ≡ satisfied tree.now query.now (take k row) }
-{
-    let n = tree.len() / 2;
-    let start = sets::load(from);
-    let left = entry < query.len() / 4;
-    if !left {
-        return meet(n, start, to);
-    }
-    let mut found = 0;
-    let ends = engines::image(
-        tree,
-        prev,
-        query,
-        &row[..k],
-        whole,
-        entry,
-        false,
-        start,
-        &mut found,
-    );
-    if !cut {
-        return found != 0;
-    }
-    meet(n, ends, to)
 }

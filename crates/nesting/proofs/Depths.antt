@@ -1,34 +1,44 @@
 -- The depth of an entry, from those of its operands.
 use Prim.Native.Nat.{ℕ, ◌+◌, ◌≤◌, ◌<◌, min, max}
 use native.Mathlib.Omega.{arith}
-use mathlib.Core.Path.{◌≡◌, sym, ap, ◌∙◌}
-use mathlib.Core.Bool.{Bool, true, false, not, cond, ◌||◌}
+use mathlib.Core.Path.{◌≡◌, refl, sym, ap, ◌∙◌}
+use mathlib.Core.Logic.{◌⊎◌, inl, inr}
+use mathlib.Core.Bool.{Bool, true, false, cond, ◌||◌}
 use mathlib.Core.List.{List}
 use lib.Dec.{eqb}
 use lib.ListN.{get_or}
-use borrow.Author.Tests.{not-true, not-false}
 use Rattle.model.specs.declared.Entry.{Entry}
 use Rattle.model.specs.Encoding.{Term}
 use Rattle.model.specs.QueryTable.{entries_of, kind, left, right, entry}
 use Rattle.model.specs.Kinds.{has_left, has_right}
 use Rattle.model.specs.Accepted.{Formed}
 use Rattle.model.proofs.Booleans.{no_yes}
-use Rattle.model.proofs.Formed.{left_lower, right_lower}
-use Rattle.aside.specs.Aside.{term_at, NumbersTo}
+use Rattle.model.specs.declared.kind.Kind.{Kind}
+use Rattle.model.specs.declared.kind.Kind.TheVariants.{Intersect, Except, Star, Same}
+use Rattle.model.specs.Numbers.{kind_number}
+use Rattle.aside.specs.declared.Operands.TheVariants as Operands
+use Rattle.aside.specs.Aside.{term_at, NumbersTo, PassedTo, OperandsOf}
+use Rattle.aside.proofs.Numbers.{kept_for}
 use Rattle.aside.proofs.Terms.{Form, form}
 use Rattle.aside.proofs.Terms.Form.{none!, one!, two! }
 use Rattle.nesting.specs.Nesting.{weight, depth_in, depth_at, deep}
 
--- how much an entry adds, by the tests of its kind
-module _ (k : ℕ) where
-  pub weighs_two : eqb k 14 ≡ true → 2 ≡ weight k
-  weighs_two h = rw h
+-- how much an entry adds, by its kind
 
-  pub weighs_one : eqb k 14 ≡ false → (eqb k 3 || (eqb k 4 || eqb k 13)) ≡ true → 1 ≡ weight k
-  weighs_one h p = rw (h, p)
+pub weighs_two : {k : Kind} → k ≡ Same → 2 ≡ weight (kind_number k)
+weighs_two h = rw h
 
-  pub weighs_none : eqb k 14 ≡ false → (eqb k 3 || (eqb k 4 || eqb k 13)) ≡ false → 0 ≡ weight k
-  weighs_none h p = rw (h, p)
+pub weighs_one : {k : Kind} → (k ≡ Intersect) ⊎ ((k ≡ Except) ⊎ (k ≡ Star)) → 1 ≡ weight (kind_number k)
+weighs_one (inl h) = rw h
+weighs_one (inr (inl h)) = rw h
+weighs_one (inr (inr h)) = rw h
+
+pub weighs_none : (k : Kind) → (k ≡ Same → ⊥) → (k ≡ Intersect → ⊥) → (k ≡ Except → ⊥) → (k ≡ Star → ⊥) → 0 ≡ weight (kind_number k)
+weighs_none Same a b c d = absurd (a refl)
+weighs_none Intersect a b c d = absurd (b refl)
+weighs_none Except a b c d = absurd (c refl)
+weighs_none Star a b c d = absurd (d refl)
+weighs_none k a b c d = refl
 
 -- it is at most two, and none is deeper than two
 
@@ -79,36 +89,32 @@ module _ (q : List ℕ) (ok : Formed q) (e : ℕ) (em : e < entries_of q) where
 
 -- one entry, from the depths of those before it
 
-module _ {q : List ℕ} {e : ℕ} {f : Entry} (fe : f ≡ entry q e) (ok : Formed q) (em : e < entries_of q) where
-  pub deep_none : (b : Bool) → b ≡ has_left f.kind → not b ≡ true → 0 ≡ depth_at q e
-  deep_none b p h = sym (depth_none q ok e em (rw fe at (sym p) ∙ not-true b h))
+module _ {q : List ℕ} {e : ℕ} {depths : List ℕ} (pass : PassedTo (depth_at q) q e depths) where
+  pub deep_none : OperandsOf q e Operands.None → 0 ≡ depth_at q e
+  deep_none a = sym (depth_none q pass.0 e pass.1.1.1 a)
 
-  module _ (depths : List ℕ) (c : NumbersTo (depth_at q) e depths) where
-    module _ (b : Bool) (p : b ≡ has_left f.kind) (h : not b ≡ false) where
-      has_left_lem : has_left (kind q e) ≡ true
-      has_left_lem = rw fe at (sym p) ∙ not-false b h
+  known : {k : ℕ} {f : Entry} → k ≡ f.kind → f ≡ entry q e → k ≡ kind q e
+  known p fe = p ∙ ap (λ (f : Entry). f.kind) fe
 
-      at_left : get_or depths f.left 0 ≡ depth_at q (left q e)
-      at_left = rw fe (c.at (left q e) (left_lower q ok e em has_left_lem))
+  module _ {i : ℕ} (a : OperandsOf q e (Operands.One i)) where
+    at_one : get_or depths i 0 ≡ depth_at q (left q e)
+    at_one = kept_for (depth_at q) pass.1.1.0 a.1.1.0 a.1.1.1
 
-      pub left_small : get_or depths f.left 0 ≤ 2
-      left_small = rw at_left (depth_small (term_at q (left q e)))
+    pub one_small : get_or depths i 0 ≤ 2
+    one_small = rw at_one (depth_small (term_at q (left q e)))
 
-      pub deep_one : (d : Bool) (o : ℕ) → o ≡ min 2 (weight f.kind + get_or depths f.left 0) → d ≡ has_right f.kind → not d ≡ true → o ≡ depth_at q e
-      deep_one d o g r k = g ∙ rw (at_left, fe) (sym (depth_one q ok e em has_left_lem (rw fe at (sym r) ∙ not-true d k)))
+    pub deep_one : {k : ℕ} {f : Entry} → k ≡ f.kind → f ≡ entry q e → (o : ℕ) → o ≡ min 2 (weight k + get_or depths i 0) → o ≡ depth_at q e
+    deep_one p fe o g = g ∙ rw (at_one, known p fe) (sym (depth_one q pass.0 e pass.1.1.1 a.0 a.1.0))
 
-      module _ (d : Bool) (r : d ≡ has_right f.kind) (k : not d ≡ false) (m : ℕ) (l : m ≡ max (get_or depths f.left 0) (get_or depths f.right 0)) where
-        has_right_lem : has_right (kind q e) ≡ true
-        has_right_lem = rw fe at (sym r) ∙ not-false d k
+  module _ {i j : ℕ} (a : OperandsOf q e (Operands.Two i j)) (m : ℕ) (l : m ≡ max (get_or depths i 0) (get_or depths j 0)) where
+    at_both : m ≡ max (depth_at q (left q e)) (depth_at q (right q e))
+    at_both = l ∙ rw (kept_for (depth_at q) pass.1.1.0 a.1.0 a.1.1.1.0, kept_for (depth_at q) pass.1.1.0 a.1.1.0 a.1.1.1.1)
 
-        at_right : get_or depths f.right 0 ≡ depth_at q (right q e)
-        at_right = rw fe (c.at (right q e) (right_lower q ok e em has_right_lem))
+    pub both_small : m ≤ 2
+    both_small = rw at_both (omega (arith, depth_small (term_at q (left q e)), depth_small (term_at q (right q e))))
 
-        pub both_small : m ≤ 2
-        both_small = rw (l, at_left, at_right) (omega (arith, depth_small (term_at q (left q e)), depth_small (term_at q (right q e))))
-
-        pub deep_two : (o : ℕ) → o ≡ min 2 (weight f.kind + m) → o ≡ depth_at q e
-        deep_two o g = g ∙ rw (l, at_left, at_right, fe) (sym (depth_two q ok e em has_right_lem))
+    pub deep_two : {k : ℕ} {f : Entry} → k ≡ f.kind → f ≡ entry q e → (o : ℕ) → o ≡ min 2 (weight k + m) → o ≡ depth_at q e
+    deep_two p fe o g = g ∙ rw (at_both, known p fe) (sym (depth_two q pass.0 e pass.1.1.1 a.0))
 
 -- what is told of an entry
 pub deep_at : (q depths : List ℕ) (e n x : ℕ) → NumbersTo (depth_at q) e depths → n ≤ e → n ≡ entries_of q → x < entries_of q → eqb (get_or depths x 0) 2 ≡ deep q x

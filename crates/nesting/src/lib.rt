@@ -13,73 +13,57 @@
 ghost use Rattle.std.specs.Prelude.{◌≡◌, ◌+◌, ◌≤◌, ◌<◌, min};
 ghost use Rattle.model.specs.QueryTable.{entries_of};
 ghost use Rattle.model.specs.Accepted.{Formed};
-ghost use Rattle.aside.specs.Aside.{NumbersTo};
+ghost use Rattle.model.specs.Numbers.{kind_number};
+ghost use Rattle.aside.specs.Aside.{PassedTo};
 ghost use Rattle.nesting.specs.Nesting.{weight, depth_at, deep, nested};
 
+use aside::Operands;
+use model::Kind;
+
 // How much an entry of a kind adds to the depth.
-fn weight_of(k: usize) -> u8
-    ensures { result ≡ weight k }
+fn weight_of(kind: Kind) -> u8
+    ensures { result ≡ weight (kind_number kind) }
 {
-    let twice = k == 14;
-    if twice {
-        return 2;
+    match kind {
+        Kind::Same => 2,
+        Kind::Intersect | Kind::Except | Kind::Star => 1,
+        _ => 0,
     }
-    let once = (k == 3) | ((k == 4) | (k == 13));
-    if once {
-        return 1;
-    }
-    0
 }
 
 // The depth of an entry of a kind over operands of which the deepest has depth d. Past two it does not count.
-fn deeper(k: usize, d: u8) -> u8
+fn deeper(kind: Kind, d: u8) -> u8
     requires { d ≤ 2 }
-    ensures { result ≡ min 2 (weight k + d) }
+    ensures { result ≡ min 2 (weight (kind_number kind) + d) }
 {
-    let sum = weight_of(k) + d;
-    if 2 < sum {
-        return 2;
-    }
-    sum
+    (weight_of(kind) + d).min(2)
 }
 
 // The depth of entry e, from those of the entries before it.
-fn of_entry(query: &[u16], depths: &[u8], e: usize) -> u8
-    requires { Formed query.now
-        × ((entries_of query.now ≤ 66) × (NumbersTo (depth_at query.now) e depths.now × (e < entries_of query.now))) }
+fn of_entry(query: &[u16], e: usize, depths: [u8; 66]) -> u8
+    requires { PassedTo (depth_at query.now) query.now e depths }
     ensures { result ≡ depth_at query.now e }
 {
-    let f = query::entry_at(query, e);
-    let k = f.kind;
-    let some = query::has_left(k);
-    if !some {
-        return 0;
+    let kind = model::kind_of(query::entry_at(query, e).kind);
+    match aside::operands_at(query, e) {
+        Operands::None => 0,
+        Operands::One(i) => deeper(kind, depths[i]),
+        Operands::Two(i, j) => deeper(kind, depths[i].max(depths[j])),
     }
-    let i = f.left;
-    let a = depths[i];
-    let two = query::has_right(k);
-    if !two {
-        return deeper(k, a);
-    }
-    let j = f.right;
-    let b = depths[j];
-    let d = aside::larger(a, b);
-    deeper(k, d)
 }
 
-// Entry x is two deep or deeper. One turn an entry, in the order of the table.
+// Entry x is two deep or deeper.
 pub fn nests_at(query: &[u16], x: usize) -> bool
     requires { Formed query.now × ((entries_of query.now ≤ 66) × (x < entries_of query.now)) }
     ensures { result ≡ deep query.now x }
 {
-    let n = query.len() / 4;
-    let mut depths = [0u8; 66];
-    let mut e = 0;
-    while e < n {
-        let d = of_entry(query, &depths, e);
-        depths[e] = d;
-        e += 1;
-    }
+    let depths = aside::number_entries(
+        query,
+        |e, kept|
+            requires { PassedTo (depth_at query.now) query.now e kept }
+            ensures { result ≡ depth_at query.entry.now e }
+        { of_entry(query, e, kept) },
+    );
     depths[x] == 2
 }
 

@@ -10,8 +10,7 @@ use Rattle.model.proofs.Booleans.{Seen, yes!, no!, seen}
 use Rattle.model.proofs.Refusals.{numbered, accepted, pass_all, by_front, same_front}
 use Rattle.model.proofs.Parties.{shared_numbered}
 use Rattle.model.proofs.Accepted.{tree_numbered}
-use Rattle.job.specs.declared.Job.{Job}
-use Rattle.job.specs.JobFile.{magic_of, trailer_size, party_of, trailer_of, bad_length, bad_magic, file_checks, job_with, job_of, widened}
+use Rattle.job.specs.JobFile.{Job, magic_of, trailer_size, party_of, trailer_of, bad_length, bad_magic, file_checks, job_with, job_of, widened}
 use Rattle.lines.specs.Lines.{end_line, refused_line}
 use Rattle.output.specs.Output.{shared_of, shared_in, party_in, tree_in, query_in, columns_in, job_checks, job_verdict, answers_in, lines_of, output_of}
 use Rattle.output.specs.Before.{tree_before, query_before, columns_before, file_checks_before, verdict_before, output_before}

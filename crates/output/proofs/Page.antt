@@ -4,18 +4,22 @@ use Rattle.model.specs.declared.Reply.{Reply}
 use Rattle.model.specs.declared.PageReply.{PageReply}
 use Rattle.model.specs.Answers.{Row, answers}
 use Rattle.model.specs.Pages.{after, flat, some, paged}
-use Rattle.model.specs.Refusals.{verdict}
+use Rattle.model.specs.Refusals.{reply, refused, told_page, verdict}
+use Rattle.model.proofs.Refusals.{refused_some}
+use Rattle.view.specs.View.{Looked}
 use Rattle.model.specs.Checks.{page_checks}
-use Rattle.model.specs.Parties.{shared_verdict, seen_table}
 use Rattle.model.specs.Services.{page_outcome, PageLeaves}
 use Rattle.model.proofs.Answers.{Wide, answers_wide}
 use Rattle.model.proofs.Parties.{over_refused, over_accepted}
 use Rattle.model.proofs.Booleans.{Seen, yes!, no!, seen, no_yes}
-use Rattle.answers.specs.declared.Paged.{Paged}
+use Rattle.std.specs.Prelude.{Result, Ok, Err}
+use Rattle.model.specs.declared.Page.{Page}
+use Rattle.model.specs.declared.Cursor.{Cursor}
+use Rattle.model.specs.declared.refusal.Refusal.{Refusal}
 use Rattle.answers.proofs.Paging.{in_after, in_take}
 use Rattle.job.specs.declared.Span.{Span}
-use Rattle.job.specs.declared.Job.{Job}
-use Rattle.job.specs.JobFile.{numbers, file_checks, job_of, widened, Fronts}
+use Rattle.job.specs.JobFile.{Job, numbers, file_checks, job_of, opened, widened, Fronts}
+use Rattle.job.specs.declared.Parts.{Parts}
 use Rattle.job.proofs.Files.{length_numbers}
 use Rattle.lines.specs.Lines.{row_lines, put, Wrote}
 use Rattle.lines.proofs.Worked.{lines_of_rows}
@@ -33,23 +37,26 @@ piece_of o before after n r next w e f = (
   w.buffer ∙ ap (λ (m : ℕ). o.bytes ++ drop m before) (zero-add (length o.bytes)),
 )
 
-pub after_is : (at : Position) (page : Paged) (total : ℕ) → total ≡ (at.total + page.reply.count) % 2 ^ 64
-    → ◌≡◌ {A = Position} (record { cursor = page.cursor; total = total; listed = not page.reply.more }) (after_page at page)
-after_is at page total e = λ i. record { cursor = page.cursor; total = e i; listed = not page.reply.more }
+pub after_is : (at : Position) (page : Page) (total : ℕ) → total ≡ (at.total + page.count) % 2 ^ 64
+    → ◌≡◌ {A = Position} (record { cursor = page.cursor; total = total; listed = not page.more }) (after_page at page)
+after_is at page total e = λ i. record { cursor = page.cursor; total = e i; listed = not page.more }
 
 -- a piece over the tree that a party sees, and a refused one
 
-module _ (t q : List ℕ) (party k : ℕ) (at : Position) (room : ℕ) (v : Reply) (p : v ≡ shared_verdict t party) (before : List ℕ) (r : Piece) (out : List ℕ) where
-  pub shared_refused : (v.number ≡ 0 → ⊥) → PieceLeaves (refused_piece v at) before r out → PieceLeaves (shared_piece t party q k at room) before r out
-  unfolding shared_piece
-  shared_refused z h =
-      subst (λ (o : PieceOutcome). PieceLeaves o before r out) (over_refused t party (λ v. refused_piece v at) (λ u. tables_piece u q k at room) v p z) h
-
-  pub shared_rows : (u : List ℕ) → v.number ≡ 0 → u ≡ seen_table t party → PieceLeaves (tables_piece u q k at room) before r out
+module _ (t q : List ℕ) (party k : ℕ) (at : Position) (room : ℕ) (before : List ℕ) (r : Piece) (out own : List ℕ) where
+  pub shared_refused : (e : Refusal) (v : Reply) → Looked t party (Err e) own → v ≡ refused e → PieceLeaves (refused_piece v at) before r out
       → PieceLeaves (shared_piece t party q k at room) before r out
   unfolding shared_piece
-  shared_rows u z e h =
-      subst (λ (o : PieceOutcome). PieceLeaves o before r out) (over_accepted t party (λ v. refused_piece v at) (λ u. tables_piece u q k at room) v p u e z) h
+  shared_refused e v w p h =
+      subst (λ (o : PieceOutcome). PieceLeaves o before r out) (over_refused t party (λ v. refused_piece v at) (λ u. tables_piece u q k at room) (refused e) w.reply (refused_some e))
+      (rw p at h)
+
+  pub shared_rows : (count : ℕ) → Looked t party (Ok count) own → PieceLeaves (tables_piece (take count own) q k at room) before r out
+      → PieceLeaves (shared_piece t party q k at room) before r out
+  unfolding shared_piece
+  shared_rows count w h =
+      subst (λ (o : PieceOutcome). PieceLeaves o before r out)
+      (over_accepted t party (λ v. refused_piece v at) (λ u. tables_piece u q k at room) (reply 0 0) w.reply (take count own) w.seen.front refl) h
 
 -- the tables of a file, decoded over the front of larger buffers
 
@@ -77,23 +84,24 @@ unfolding job_piece
 parts_are file before j at room r out t q rest count k f e d h = rw (f.front, decoded file j.query.start j.query.count q rest e, d) at h
 
 -- a file that is opened
-module _ (file : List ℕ) (j : Job) (e : j ≡ job_of file) where
-  reply_is : j.reply ≡ verdict (file_checks file)
-  unfolding job_of
-  reply_is = ap (λ (j : Job). j.reply) e ∙ go (seen (eqb (verdict (file_checks file)).number 0))
-    where
-      go : Seen (eqb (verdict (file_checks file)).number 0) → (job_of file).reply ≡ verdict (file_checks file)
-      go (yes! s) = rw s
-      go (no! s) = rw s
 
-  module _ (before : List ℕ) (at : Position) (room : ℕ) (r : Piece) (out : List ℕ) where
-    pub file_refused : PieceLeaves (refused_piece j.reply at) before r out → (j.reply.number ≡ 0 → ⊥) → PieceLeaves (list_piece file at room) before r out
-    unfolding list_piece
-    file_refused h z = rw (← reply_is, ne_eqb j.reply.number 0 z) h
+reply_is : (file : List ℕ) (j : Job) → j ≡ job_of file → j.reply ≡ verdict (file_checks file)
+unfolding job_of
+reply_is file j e = ap (λ (j : Job). j.reply) e ∙ go (seen (eqb (verdict (file_checks file)).number 0))
+  where
+    go : Seen (eqb (verdict (file_checks file)).number 0) → (job_of file).reply ≡ verdict (file_checks file)
+    go (yes! s) = rw s
+    go (no! s) = rw s
 
-    pub file_listed : j.reply.number ≡ 0 → PieceLeaves (job_piece file j at room) before r out → PieceLeaves (list_piece file at room) before r out
-    unfolding list_piece
-    file_listed z h = rw (← reply_is, eq-eqb j.reply.number 0 z) (rw e at h)
+module _ (file before : List ℕ) (at : Position) (room : ℕ) (r : Piece) (out : List ℕ) where
+  pub file_refused : (e : Refusal) (v : Reply) → opened (Err e) ≡ job_of file → v ≡ refused e → PieceLeaves (refused_piece v at) before r out
+      → PieceLeaves (list_piece file at room) before r out
+  unfolding list_piece
+  file_refused e v o p h = rw (← reply_is file (opened (Err e)) o, ne_eqb (refused e).number 0 (refused_some e)) (rw p at h)
+
+  pub file_listed : (j : Parts) → opened (Ok j) ≡ job_of file → PieceLeaves (job_piece file (opened (Ok j)) at room) before r out → PieceLeaves (list_piece file at room) before r out
+  unfolding list_piece
+  file_listed j o h = rw (← reply_is file (opened (Ok j)) o, eq-eqb 0 0 refl) (rw o at h)
 
 -- which piece it is
 
@@ -125,39 +133,38 @@ piece_within file at before p out d =
     omega (arith, ap (λ (p : Piece). p.count) d.0, ap length d.1, length-append o.bytes (drop (length o.bytes) before))
 
 -- a page call with room for as many numbers as a piece has in so many bytes
-module _ (t q : List ℕ) (k : ℕ) (at : Position) (rows : List ℕ) (page : Paged) (left : List ℕ) (room : ℕ)
-    (d : PageLeaves (page_outcome t q k at.cursor rows) page.reply page.cursor left) (e : length rows ≡ numbers_for room) where
+module _ (t q : List ℕ) (k : ℕ) (at : Position) (rows left : List ℕ) (room : ℕ) (e : length rows ≡ numbers_for room) where
   abbrev v : Reply
   v = verdict (page_checks t q k at.cursor (length rows))
 
-  module _ (z : page.reply.number ≡ 0 → ⊥) where
+  module _ (x : Refusal) (d : PageLeaves (page_outcome t q k at.cursor rows) (told_page (Err x)) at.cursor left) where
     not_accepted : Seen (eqb v.number 0) → eqb v.number 0 ≡ false
     unfolding page_outcome
-    not_accepted (yes! s) = absurd (z (rw s at (ap (λ (r : PageReply). r.number) d.0)))
+    not_accepted (yes! s) = absurd (refused_some x (rw s at (ap (λ (r : PageReply). r.number) d.0)))
     not_accepted (no! s) = s
 
-    refused_as : ◌≡◌ {A = Reply} (record { number = page.reply.number; place = page.reply.place }) v
+    refused_as : refused x ≡ v
     unfolding page_outcome
     refused_as =
         let s = not_accepted (seen (eqb v.number 0)) in
         rw s at (ap {B = Reply} (λ (r : PageReply). record { number = r.number; place = r.place }) d.0)
 
-    pub page_refused : (r : Piece) (before after : List ℕ) → PieceLeaves (refused_piece (record { number = page.reply.number; place = page.reply.place }) at) before r after
+    pub page_refused : (u : Reply) (r : Piece) (before after : List ℕ) → u ≡ refused x → PieceLeaves (refused_piece u at) before r after
         → PieceLeaves (tables_piece t q k at room) before r after
     unfolding tables_piece
-    page_refused r before after h =
-        rw (← e, not_accepted (seen (eqb v.number 0)), ← refused_as) h
+    page_refused u r before after p h =
+        rw (← e, not_accepted (seen (eqb v.number 0)), ← refused_as) (rw p at h)
 
-  module _ (z : page.reply.number ≡ 0) where
+  module _ (page : Page) (d : PageLeaves (page_outcome t q k at.cursor rows) (told_page (Ok page)) page.cursor left) where
     number_seen : Seen (eqb v.number 0) → v.number ≡ 0
     unfolding page_outcome
     number_seen (yes! s) = eqb-true v.number 0 s
-    number_seen (no! s) = sym (rw s at (ap (λ (r : PageReply). r.number) d.0)) ∙ z
+    number_seen (no! s) = sym (rw s at (ap (λ (r : PageReply). r.number) d.0))
 
     number_is : v.number ≡ 0
     number_is = number_seen (seen (eqb v.number 0))
 
-    leaves : PageLeaves (paged k (answers t q k) at.cursor rows) page.reply page.cursor left
+    leaves : PageLeaves (paged k (answers t q k) at.cursor rows) (told_page (Ok page)) page.cursor left
     unfolding page_outcome
     leaves = rw (eq-eqb v.number 0 number_is) at d
 
@@ -168,16 +175,16 @@ module _ (t q : List ℕ) (k : ℕ) (at : Position) (rows : List ℕ) (page : Pa
     wide : Wide k here
     wide r i = answers_wide t q k r (in_after r (answers t q k) k at.cursor (in_take (length rows / k) r (after k (answers t q k) at.cursor) i))
 
-    count_is : page.reply.count ≡ length here
+    count_is : page.count ≡ length here
     count_is = ap (λ (r : PageReply). r.count) leaves.0
 
-    pub rows_fit : length left ≡ length rows → (page.reply.count * k ≤ length left) × (0 + 6 * (page.reply.count * k) ≤ room)
+    pub rows_fit : length left ≡ length rows → (page.count * k ≤ length left) × (0 + 6 * (page.count * k) ≤ room)
     rows_fit g =
-        let a : page.reply.count ≤ length rows / k = omega (arith, count_is, length-take (length rows / k) (after k (answers t q k) at.cursor)) in
-        let b : page.reply.count * k ≤ length rows = omega (arith, mul-le-mul_right k a, div-mul-le_self (length rows) k) in
+        let a : page.count ≤ length rows / k = omega (arith, count_is, length-take (length rows / k) (after k (answers t q k) at.cursor)) in
+        let b : page.count * k ≤ length rows = omega (arith, mul-le-mul_right k a, div-mul-le_self (length rows) k) in
         (omega (arith, b), omega (arith, b, e))
 
-    lines_are : row_lines k page.reply.count left ≡ lines_of here
+    lines_are : row_lines k page.count left ≡ lines_of here
     lines_are = rw (count_is, leaves.2) (lines_of_rows k here (drop (length (flat here)) rows) wide)
 
     abbrev more : Bool
@@ -190,7 +197,7 @@ module _ (t q : List ℕ) (k : ℕ) (at : Position) (rows : List ℕ) (page : Pa
       listed = not (leaves.0 i).more;
     }
 
-    pub page_rows : (before after : List ℕ) (n : ℕ) (r : Reply) (next : Position) → Wrote (row_lines k page.reply.count left) 0 before after n
+    pub page_rows : (before after : List ℕ) (n : ℕ) (r : Reply) (next : Position) → Wrote (row_lines k page.count left) 0 before after n
         → r ≡ record { number = 0; place = 0 } → next ≡ after_page at page
         → PieceLeaves (tables_piece t q k at room) before (record { reply = r; count = n; last = false; next = next }) after
     unfolding tables_piece

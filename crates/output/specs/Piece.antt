@@ -6,10 +6,9 @@ use Rattle.model.specs.Pages.{after, moved, some}
 use Rattle.model.specs.Refusals.{verdict, reply}
 use Rattle.model.specs.Checks.{page_checks}
 use Rattle.model.specs.Parties.{over_seen}
-use Rattle.job.specs.declared.Job.{Job}
-use Rattle.job.specs.JobFile.{numbers, file_checks, job_of}
+use Rattle.job.specs.JobFile.{Job, numbers, file_checks, job_of}
 use Rattle.lines.specs.Lines.{end_line, refused_line}
-use Rattle.answers.specs.declared.Paged.{Paged}
+use Rattle.model.specs.declared.Page.{Page}
 use Rattle.output.specs.declared.Position.{Position}
 use Rattle.output.specs.declared.Piece.{Piece}
 use Rattle.output.specs.Output.{shared_of, lines_of}
@@ -56,10 +55,9 @@ rows_piece at rows more =
       next = record { cursor = moved at.cursor rows; total = (at.total + length rows) % 2 ^ 64; listed = not more };
     }
 
--- where the output stands after a page (of the by-value page function)
-abbrev pub after_page : Position → Paged → Position
-after_page at page =
-    record { cursor = page.cursor; total = (at.total + page.reply.count) % 2 ^ 64; listed = not page.reply.more }
+-- where the output stands after a page
+abbrev pub after_page : Position → Page → Position
+after_page at page = record { cursor = page.cursor; total = (at.total + page.count) % 2 ^ 64; listed = not page.more }
 
 -- of a tree, a query and its number of variables: the first answers after the position's cursor, as many as there is room for;
 -- or the refusal of a page call that is lent them, 5 to 15 and 17

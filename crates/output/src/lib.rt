@@ -2,24 +2,28 @@
 // after them. A piece of rows is one page of answers, and each call opens and checks the file anew.
 #![tactic(auto)]
 
-ghost use Rattle.std.specs.Prelude.{◌≡◌, ◌≤◌, length};
+ghost use Rattle.std.specs.Prelude.{◌≡◌, ◌≤◌, length, Ok};
 ghost use Rattle.model.specs.Accepted.{AcceptedTree};
-ghost use Rattle.job.specs.JobFile.{end_of, Fronts};
+ghost use Rattle.job.specs.JobFile.{end_of, opened, Fronts};
 ghost use Rattle.output.specs.Output.{shared_of};
 ghost use Rattle.output.specs.Piece.{beginning, smallest, numbers_for, end_piece, refused_piece, after_page, tables_piece, shared_piece, job_piece, list_piece, piece_outcome, PieceLeaves};
 
+use job::{Parts, Span};
+use model::{Cursor, Page, Reply};
+
 // Where the output of a file stands: after which row, how many rows are written, and whether these are all of them.
-#[derive(Drop)]
+#[derive(Clone, Copy)]
 pub struct Position {
-    pub cursor: model::Cursor,
+    pub cursor: Cursor,
     pub total: usize,
     pub listed: bool,
 }
 
-// A piece: the verdict, how many bytes it has, whether it is the last, and where the output stands after it.
-#[derive(Drop)]
+// A piece: the verdict, how many bytes it has, whether it is the last, and where the output stands after it. The verdict is a reply and
+// no Result, since the theorem `pieces_exist` is of whatever reply a piece may have.
+#[derive(Clone, Copy)]
 pub struct Piece {
-    pub reply: model::Reply,
+    pub reply: Reply,
     pub count: usize,
     pub last: bool,
     pub next: Position,
@@ -40,13 +44,13 @@ fn end_piece(at: Position, out: &mut [u8]) -> Piece
 }
 
 // The one line of a refusal.
-fn refused_piece(reply: model::Reply, at: Position, out: &mut [u8]) -> Piece
+fn refused_piece(reply: Reply, at: Position, out: &mut [u8]) -> Piece
     requires { smallest ≤ length out.old }
     ensures { PieceLeaves (refused_piece reply at) out.old result out.new }
 {
     let n = lines::refused_line(out, 0, reply);
     Piece {
-        reply: reply,
+        reply,
         count: n,
         last: true,
         next: at,
@@ -57,20 +61,18 @@ fn refused_piece(reply: model::Reply, at: Position, out: &mut [u8]) -> Piece
 fn numbers_for(room: usize) -> usize
     ensures { result ≡ numbers_for room }
 {
-    let most = room / 6;
-    if most < 3072 { most } else { 3072 }
+    (room / 6).min(3072)
 }
 
 // Where the output stands after a page.
-fn after_page(at: Position, page: answers::Paged) -> Position
+fn after_page(at: Position, page: Page) -> Position
     ensures { result ≡ after_page at page }
 {
-    let reply = page.reply;
     let last = page.cursor;
     Position {
         cursor: last,
-        total: std::num::wrapping_add_usize(at.total, reply.count),
-        listed: !reply.more,
+        total: std::num::wrapping_add_usize(at.total, page.count),
+        listed: !page.more,
     }
 }
 
@@ -89,24 +91,17 @@ fn page_piece(
     ensures { PieceLeaves (tables_piece tree.now query.now columns at (length out.old)) out.old
         result out.new }
 {
-    let page = quick::page_either(tree, query, columns, at.cursor, rows);
-    let reply = page.reply;
-    if reply.number != 0 {
-        return refused_piece(
-            model::Reply {
-                number: reply.number,
-                place: reply.place,
-            },
-            at,
-            out,
-        );
-    }
-    let n = lines::row_lines(out, 0, rows, columns, reply.count);
-    Piece {
-        reply: model::reply_at(0, 0),
-        count: n,
-        last: false,
-        next: after_page(at, page),
+    match quick::page_either(tree, query, columns, at.cursor, rows) {
+        Ok(page) => {
+            let n = lines::row_lines(out, 0, rows, columns, page.count);
+            Piece {
+                reply: model::reply_at(0, 0),
+                count: n,
+                last: false,
+                next: after_page(at, page),
+            }
+        }
+        Err(e) => refused_piece(Reply::from(e), at, out),
     }
 }
 
@@ -135,17 +130,14 @@ fn shared_piece(
         result out.new }
 {
     let mut table = [0u16; 512];
-    let sight = view::look(tree, party, &mut table);
-    let v = sight.reply;
-    if v.number != 0 {
-        return refused_piece(v, at, out);
+    match view::look(tree, party, &mut table) {
+        Ok(count) => rows_piece(&table[..count], query, columns, at, out),
+        Err(e) => refused_piece(Reply::from(e), at, out),
     }
-    let count = sight.count;
-    rows_piece(&table[..count], query, columns, at, out)
 }
 
 // The shared table of a file's tree part, over the front of a buffer, and how many numbers it has.
-fn shared_table(file: &[u8], tree: job::Span, owners: bool, out: &mut [u16]) -> usize
+fn shared_table(file: &[u8], tree: Span, owners: bool, out: &mut [u16]) -> usize
     requires { (end_of tree ≤ length file.now) × ((tree.count ≤ 2042) × (length out.old ≡ 3072)) }
     ensures { Fronts (shared_of file.now tree owners) result out.new }
 {
@@ -161,10 +153,10 @@ fn shared_table(file: &[u8], tree: job::Span, owners: bool, out: &mut [u16]) -> 
 
 // The parts of an accepted file, as numbers: it has at most 4,084 bytes before its trailer, which are 2,042 numbers, or 3,063 where nodes
 // get an owner each.
-fn parts_piece(file: &[u8], job: job::Job, at: Position, out: &mut [u8]) -> Piece
+fn parts_piece(file: &[u8], job: Parts, at: Position, out: &mut [u8]) -> Piece
     requires { ((end_of job.tree ≤ length file.now) × (job.tree.count ≤ 2042))
         × (((end_of job.query ≤ length file.now) × (job.query.count ≤ 2042)) × (smallest ≤ length out.old)) }
-    ensures { PieceLeaves (job_piece file.now job at (length out.old)) out.old result out.new }
+    ensures { PieceLeaves (job_piece file.now (opened (Ok job)) at (length out.old)) out.old result out.new }
 {
     let mut shared = [0u16; 3072];
     let mut query_numbers = [0; 2048];
@@ -172,11 +164,10 @@ fn parts_piece(file: &[u8], job: job::Job, at: Position, out: &mut [u8]) -> Piec
     let query = job.query;
     let count = shared_table(file, tree, job.owners, &mut shared);
     job::decode(file, query.start, query.count, &mut query_numbers);
-    let query_count = query.count;
     shared_piece(
         &shared[..count],
         job.party,
-        &query_numbers[..query_count],
+        &query_numbers[..query.count],
         model::wide(job.columns),
         at,
         out,
@@ -189,12 +180,10 @@ fn list_piece(file: &[u8], at: Position, out: &mut [u8]) -> Piece
     ensures { PieceLeaves (list_piece file.now at (length out.old)) out.old
         result out.new }
 {
-    let job = job::open(file);
-    let reply = job.reply;
-    if reply.number != 0 {
-        return refused_piece(reply, at, out);
+    match job::open(file) {
+        Ok(job) => parts_piece(file, job, at, out),
+        Err(e) => refused_piece(Reply::from(e), at, out),
     }
-    parts_piece(file, job, at, out)
 }
 
 // Where the output of every file begins.
@@ -202,7 +191,7 @@ pub fn start() -> Position
     ensures { result ≡ beginning }
 {
     Position {
-        cursor: model::Cursor {
+        cursor: Cursor {
             begun: 0,
             first: 0,
             second: 0,

@@ -4,16 +4,17 @@ use native.Mathlib.Numerals.{add-one}
 use native.Mathlib.Nat.{mul-le-mul_right}
 use native.Mathlib.Omega.{arith}
 use mathlib.Core.Path.{◌≡◌, refl, sym, ap, ◌∙◌}
-use mathlib.Core.Bool.{Bool, false, ◌&&◌}
+use mathlib.Core.Bool.{Bool, ◌&&◌}
 use mathlib.Core.List.{List, [], ◌∷◌, ◌++◌, append_assoc}
-use lib.ListN.{length, get_or, take, drop, set, length-append, length-drop}
-use lib.Seq.{take_at, drop_at, drop-drop, length-take-le, sets-eq, paste-zero}
+use borrow.Rule.Slice.PartMut.{put_mid}
+use lib.ListN.{length, get_or, take, drop, set, replicate, length-append, length-drop}
+use lib.Seq.{take_at, drop_at, drop-drop, length-take-le, paste-zero}
 use lib.Dec.{ltb}
 use borrow.Author.Tests.{lt-ltb, le-ltb}
 use Rattle.model.specs.Sets.{bit, tab, memb, upto}
 use Rattle.model.specs.Results.{cell}
-use Rattle.model.proofs.Bytes.{tab_cong, tab_snoc, tab_append, length_tab, front_store, cell_at}
-use Rattle.sets.specs.NodeSets.{always, shifted}
+use Rattle.model.proofs.Bytes.{tab_none, tab_cong, tab_snoc, tab_append, length_tab, front_store, over_start, cell_at, row_next}
+use Rattle.sets.specs.NodeSets.{shifted}
 use Rattle.bits.specs.Words.{test_bit, word, words, has_bit}
 use Rattle.bits.specs.BitTables.{bit_cell, bit_table, byte_table, bit_relation, byte_relation}
 use Rattle.bits.proofs.Words.{word_cong, word_none, word_short, length_words, words_of, words_cong, words_append, has_bit_at, test_none}
@@ -60,18 +61,9 @@ four_parts n at s a b c d p q r t = words_of 4 (upto n (shifted at s)) (a ∷ b 
     part_of (suc (suc (suc zero))) l = t
     part_of (suc (suc (suc (suc i)))) l = absurd (omega arith)
 
-pub put_four : (d r : List ℕ) (i : ℕ) → length r ≡ 4 → i + 4 ≤ length d
-    → set (set (set (set d i (get_or r 0 0)) (i + 1) (get_or r 1 0)) (i + 2) (get_or r 2 0)) (i + 3) (get_or r 3 0) ≡ take i d ++ r ++ drop (i + 4) d
-put_four d [] i e h = absurd (omega arith)
-put_four d (a ∷ []) i e h = absurd (omega arith)
-put_four d (a ∷ b ∷ []) i e h = absurd (omega arith)
-put_four d (a ∷ b ∷ c ∷ []) i e h = absurd (omega arith)
-put_four d (a ∷ b ∷ c ∷ g ∷ []) i e h =
-    let p : i + 1 ≡ suc i = omega arith in
-    let q : i + 2 ≡ suc (suc i) = omega arith in
-    let r : i + 3 ≡ suc (suc (suc i)) = omega arith in
-    rw (p, q, r) (sets-eq (a ∷ b ∷ c ∷ g ∷ []) d i h)
-put_four d (a ∷ b ∷ c ∷ g ∷ x ∷ r) i e h = absurd (omega arith)
+-- a part is written by the library
+pub put_as : (a m k : ℕ) (d p q : List ℕ) → p ≡ q → m ≡ k → put_mid a m d p ≡ take a d ++ q ++ drop (a + k) d
+put_as a m k d p q e f = rw (e, f, drop-drop k a d) (sym (append_assoc (take a d) q (drop (a + k) d)))
 
 -- a part is written behind what stands over the front already
 part_over : (a k : ℕ) (P m o l l' : List ℕ) → l' ≡ take a l ++ m ++ drop (a + k) l → l ≡ P ++ drop a o → length P ≡ a → l' ≡ P ++ m ++ drop (a + k) o
@@ -98,24 +90,25 @@ pub words_length : (S : ℕ → Bool) (o l : List ℕ) (to : ℕ) → l ≡ word
 words_length S o l to p h = rw (p, length-append (words to S) (drop to o), length_words to S, length-drop to o) (omega arith)
 
 -- row x of a table of bytes is written as a row of bits behind those before it
-pub words_more : (n x at to : ℕ) (b o l l' r : List ℕ) → l' ≡ take to l ++ r ++ drop (to + 4) l → l ≡ words to (bit_cell n (byte_relation n b)) ++ drop to o
-    → r ≡ words 4 (upto n (shifted at b)) → at ≡ x * n → to ≡ 4 * x → l' ≡ words (to + 4) (bit_cell n (byte_relation n b)) ++ drop (to + 4) o
-unfolding byte_relation upto
-words_more n x at to b o l l' r p q g e f =
-    part_over to 4 (words to S) r o l l' p q (length_words to S)
-    ∙ ap (λ (m : List ℕ). m ++ drop (to + 4) o) (ap (λ (m : List ℕ). words to S ++ m) (g ∙ words_cong 4 _ _ row) ∙ sym (words_append to 4 S))
-  where
-    S : ℕ → Bool
-    S = bit_cell n (byte_relation n b)
 
-    row : (k : ℕ) → k < 64 * 4 → (ltb k n && memb b (at + k)) ≡ bit_cell n (byte_relation n b) (64 * to + k)
-    row k h =
-        sym (ap (bit_cell n (byte_relation n b)) (let d : 64 * to + k ≡ 256 * x + k = omega arith in d)
-        ∙ cell_row n (byte_relation n b) x k (omega arith) ∙ ap (λ (a : ℕ). ltb k n && memb b (a + k)) (sym e))
+module _ (n x : ℕ) (b o l : List ℕ) (q : l ≡ words (4 * x) (bit_cell n (byte_relation n b)) ++ drop (4 * x) o) where
+  abbrev S : ℕ → Bool
+  S = bit_cell n (byte_relation n b)
 
-pub words_end : (n x to : ℕ) (R : ℕ → ℕ → Bool) (o l : List ℕ) → l ≡ words to (bit_cell n R) ++ drop to o → to ≡ 4 * x → x ≤ n → n ≤ x → l ≡ bit_table n R ++ drop (4 * n) o
-unfolding bit_table
-words_end n x to R o l p e a b = p ∙ ap (λ (k : ℕ). words k (bit_cell n R) ++ drop k o) (let d : to ≡ 4 * n = omega arith in d)
+  pub words_more : (m : ℕ) (p r : List ℕ) → p ≡ r → m ≡ 4 → r ≡ words 4 (upto n (shifted (x * n) b)) → put_mid (4 * x) m l p ≡ words (4 * (x + 1)) S ++ drop (4 * (x + 1)) o
+  unfolding byte_relation upto
+  words_more m p r e f g =
+      part_over (4 * x) 4 (words (4 * x) S) r o l (put_mid (4 * x) m l p) (put_as (4 * x) m 4 l p r e f) q (length_words (4 * x) S)
+      ∙ ap (λ (m : List ℕ). m ++ drop (4 * x + 4) o) (ap (λ (m : List ℕ). words (4 * x) S ++ m) (g ∙ words_cong 4 _ _ row) ∙ sym (words_append (4 * x) 4 S))
+      ∙ ap (λ (k : ℕ). words k S ++ drop k o) (let d : 4 * x + 4 ≡ 4 * (x + 1) = omega arith in d)
+    where
+      row : (k : ℕ) → k < 64 * 4 → (ltb k n && memb b (x * n + k)) ≡ bit_cell n (byte_relation n b) (64 * (4 * x) + k)
+      row k h =
+          sym (ap (bit_cell n (byte_relation n b)) (let d : 64 * (4 * x) + k ≡ 256 * x + k = omega arith in d) ∙ cell_row n (byte_relation n b) x k (omega arith))
+
+  pub words_end : x ≤ n → n ≤ x → l ≡ bit_table n (byte_relation n b) ++ drop (4 * n) o
+  unfolding bit_table
+  words_end h k = q ∙ ap (λ (k : ℕ). words (4 * k) S ++ drop (4 * k) o) (let d : x ≡ n = omega arith in d)
 
 -- rows of bytes
 
@@ -145,42 +138,54 @@ module _ (S : ℕ → Bool) (d : List ℕ) (at : ℕ) where
   part_done l y n p a b = p ∙ ap (λ (k : ℕ). take at d ++ tab k S ++ drop (at + k) d) (let e : y ≡ n = omega arith in e)
 
 -- the lowest k bits of word i of a row are written behind those of the words before it
-pub part_word : (w d l l' : List ℕ) (from at i y k : ℕ) → l' ≡ take (at + y) l ++ tab k (test_bit (get_or w i 0)) ++ drop (at + y + k) l → l ≡ part (row_bit w from) d at y
-    → 64 * i ≡ 64 * from + y → k ≤ 64 → at + y ≤ length d → l' ≡ part (row_bit w from) d at (y + k)
+pub part_word : (w d l l' : List ℕ) (from at i k : ℕ) → l' ≡ take (at + 64 * i) l ++ tab k (test_bit (get_or w (from + i) 0)) ++ drop (at + 64 * i + k) l → l ≡ part (row_bit w from) d at (64 * i)
+    → k ≤ 64 → at + 64 * i ≤ length d → l' ≡ part (row_bit w from) d at (64 * i + k)
 unfolding part
-part_word w d l l' from at i y k p q e small h =
-    part_over (at + y) k (take at d ++ tab y S) (tab k (test_bit (get_or w i 0))) d l l' p q (length-append (take at d) (tab y S) ∙ rw (length-take-le at d (omega arith), length_tab y S))
-    ∙ ap (λ (m : List ℕ). m ++ drop (at + y + k) d) (append_assoc (take at d) (tab y S) (tab k (test_bit (get_or w i 0))) ∙ ap (λ (m : List ℕ). take at d ++ m) (ap (λ (m : List ℕ). tab y S ++ m) (tab_cong k _ _ read) ∙ sym (tab_append y k S)))
-    ∙ ap (λ (j : ℕ). take at d ++ tab (y + k) S ++ drop j d) (let g : at + y + k ≡ at + (y + k) = omega arith in g)
+part_word w d l l' from at i k p q small h =
+    part_over (at + 64 * i) k (take at d ++ tab (64 * i) S) (tab k (test_bit (get_or w (from + i) 0))) d l l' p q (length-append (take at d) (tab (64 * i) S) ∙ rw (length-take-le at d (omega arith), length_tab (64 * i) S))
+    ∙ ap (λ (m : List ℕ). m ++ drop (at + 64 * i + k) d) (append_assoc (take at d) (tab (64 * i) S) (tab k (test_bit (get_or w (from + i) 0))) ∙ ap (λ (m : List ℕ). take at d ++ m) (ap (λ (m : List ℕ). tab (64 * i) S ++ m) (tab_cong k _ _ read) ∙ sym (tab_append (64 * i) k S)))
+    ∙ ap (λ (j : ℕ). take at d ++ tab (64 * i + k) S ++ drop j d) (let g : at + 64 * i + k ≡ at + (64 * i + k) = omega arith in g)
   where
     S : ℕ → Bool
     S = row_bit w from
 
-    read : (j : ℕ) → j < k → test_bit (get_or w i 0) j ≡ row_bit w from (y + j)
-    read j lt = sym (ap (has_bit w) (let g : 64 * from + (y + j) ≡ 64 * i + j = omega arith in g) ∙ has_bit_at w i j (omega arith))
+    read : (j : ℕ) → j < k → test_bit (get_or w (from + i) 0) j ≡ row_bit w from (64 * i + j)
+    read j lt = sym (ap (has_bit w) (let g : 64 * from + (64 * i + j) ≡ 64 * (from + i) + j = omega arith in g) ∙ has_bit_at w (from + i) j (omega arith))
+
+pub part_next : (w d l l' : List ℕ) (from at i : ℕ) → l' ≡ take (at + 64 * i) l ++ tab 64 (test_bit (get_or w (from + i) 0)) ++ drop (at + 64 * i + 64) l → l ≡ part (row_bit w from) d at (64 * i)
+    → at + 64 * i ≤ length d → l' ≡ part (row_bit w from) d at (64 * (i + 1))
+part_next w d l l' from at i p q h =
+    part_word w d l l' from at i 64 p q (omega arith) h ∙ ap (part (row_bit w from) d at) (let e : 64 * i + 64 ≡ 64 * (i + 1) = omega arith in e)
+
+pub part_whole : (S : ℕ → Bool) (d l : List ℕ) (at i m : ℕ) → l ≡ part S d at (64 * i) → i ≤ m → m ≤ i → l ≡ part S d at (64 * m)
+part_whole S d l at i m p a b = p ∙ ap (λ (k : ℕ). part S d at (64 * k)) (let e : i ≡ m = omega arith in e)
 
 -- no bit of 0 is set
-pub cleared : (w k : ℕ) (a b l : List ℕ) → l ≡ a ++ tab k (always false) ++ b → w ≡ 0 → l ≡ a ++ tab k (test_bit w) ++ b
-cleared w k a b l p e = p ∙ ap (λ (m : List ℕ). a ++ m ++ b) (tab_cong k (always false) (test_bit w) (λ i h. sym (ap (λ (v : ℕ). test_bit v i) e ∙ test_none i)))
+pub cleared : (w a m k : ℕ) (d p : List ℕ) → p ≡ replicate m 0 → m ≡ k → w ≡ 0 → put_mid a k d p ≡ take a d ++ tab k (test_bit w) ++ drop (a + k) d
+cleared w a m k d p e f z = put_as a k k d p (tab k (test_bit w)) (e ∙ ap (λ (j : ℕ). replicate j 0) f ∙ tab_none k (test_bit w) (λ i. ap (λ (v : ℕ). test_bit v i) z ∙ test_none i)) refl
 
 -- row x of a table of bits is written as a row of bytes behind those before it
-pub bytes_more : (n x at i : ℕ) (w o l l' : List ℕ) → l' ≡ take at l ++ tab n (row_bit w i) ++ drop (at + n) l → l ≡ tab at (cell n (bit_relation w)) ++ drop at o
-    → at ≡ x * n → i ≡ 4 * x → l' ≡ tab (at + n) (cell n (bit_relation w)) ++ drop (at + n) o
-unfolding bit_relation
-bytes_more n x at i w o l l' p q e f =
-    part_over at n (tab at C) (tab n (row_bit w i)) o l l' p q (length_tab at C)
-    ∙ ap (λ (m : List ℕ). m ++ drop (at + n) o) (ap (λ (m : List ℕ). tab at C ++ m) (tab_cong n _ _ row) ∙ sym (tab_append at n C))
-  where
-    C : ℕ → Bool
-    C = cell n (bit_relation w)
 
-    row : (k : ℕ) → k < n → row_bit w i k ≡ cell n (bit_relation w) (at + k)
-    row k h = ap (has_bit w) (let d : 64 * i + k ≡ 256 * x + k = omega arith in d) ∙ sym (cell_at n x at e (bit_relation w) k h)
+pub bytes_start : (n : ℕ) (S : ℕ → Bool) (d : List ℕ) → d ≡ tab (0 * n) S ++ drop (0 * n) d
+bytes_start n S d = let e : 0 * n ≡ 0 = omega arith in rw e (over_start S d)
 
-pub row_within : (n x at : ℕ) → at ≡ x * n → x ≤ n → at ≤ n * n
-row_within n x at e h = rw e (mul-le-mul_right n h)
+pub row_within : (n x : ℕ) → x ≤ n → x * n ≤ n * n
+row_within n x h = mul-le-mul_right n h
 
-pub bytes_end : (n x at : ℕ) (R : ℕ → ℕ → Bool) (o l : List ℕ) → l ≡ tab at (cell n R) ++ drop at o → at ≡ x * n → x ≤ n → n ≤ x → l ≡ byte_table n R ++ drop (n * n) o
-unfolding byte_table
-bytes_end n x at R o l p e a b =
-    p ∙ ap (λ (k : ℕ). tab k (cell n R) ++ drop k o) (e ∙ ap (λ (k : ℕ). k * n) (let g : x ≡ n = omega arith in g))
+module _ (n x : ℕ) (w o l : List ℕ) (q : l ≡ tab (x * n) (cell n (bit_relation w)) ++ drop (x * n) o) where
+  abbrev C : ℕ → Bool
+  C = cell n (bit_relation w)
+
+  pub bytes_more : (l' : List ℕ) → l' ≡ take (x * n) l ++ tab n (row_bit w (4 * x)) ++ drop (x * n + n) l → l' ≡ tab ((x + 1) * n) C ++ drop ((x + 1) * n) o
+  unfolding bit_relation
+  bytes_more l' p =
+      part_over (x * n) n (tab (x * n) C) (tab n (row_bit w (4 * x))) o l l' p q (length_tab (x * n) C)
+      ∙ ap (λ (m : List ℕ). m ++ drop (x * n + n) o) (ap (λ (m : List ℕ). tab (x * n) C ++ m) (tab_cong n _ _ row) ∙ sym (tab_append (x * n) n C))
+      ∙ ap (λ (k : ℕ). tab k C ++ drop k o) (row_next n x (x * n) refl)
+    where
+      row : (k : ℕ) → k < n → row_bit w (4 * x) k ≡ cell n (bit_relation w) (x * n + k)
+      row k h = ap (has_bit w) (let d : 64 * (4 * x) + k ≡ 256 * x + k = omega arith in d) ∙ sym (cell_at n x (x * n) refl (bit_relation w) k h)
+
+  pub bytes_end : x ≤ n → n ≤ x → l ≡ byte_table n (bit_relation w) ++ drop (n * n) o
+  unfolding byte_table
+  bytes_end h k = q ∙ ap (λ (k : ℕ). tab (k * n) C ++ drop (k * n) o) (let g : x ≡ n = omega arith in g)

@@ -9,13 +9,14 @@ use lib.ListN.{length, drop}
 use lib.Dec.{ltb, eqb}
 use borrow.Author.Tests.{ltb-false, eqb-true, not-false}
 use Rattle.model.specs.declared.Reply.{Reply}
+use Rattle.model.specs.declared.refusal.Refusal.{Refusal}
 use Rattle.model.specs.Sets.{any, tab}
 use Rattle.model.specs.Results.{cell}
-use Rattle.model.specs.Refusals.{verdict, written}
+use Rattle.model.specs.Refusals.{refused, verdict, written}
 use Rattle.model.specs.Checks.{bad_byte, room_checks}
 use Rattle.model.proofs.Booleans.{no_or}
 use Rattle.model.proofs.Bytes.{length_tab}
-use Rattle.model.proofs.Refusals.{Passes, numbered, accepted, written_over}
+use Rattle.model.proofs.Refusals.{Passes, numbered, accepted, written_not, written_over, refused_some}
 use Rattle.checks.proofs.Verdicts.{zero_of}
 use Rattle.bits.specs.Words.{words}
 use Rattle.bits.specs.BitTables.{bit_cell, bit_table, byte_table}
@@ -74,6 +75,9 @@ pub unpack_ready : (n : ℕ) (w : List ℕ) (room : ℕ) (r : Reply) → r ≡ v
 unpack_ready n w room r p z = let a = bits_accepted n w room r p z in (size_small n (bad_size n) refl a.size, (let e = a.long in omega arith, a.fits))
 
 -- the buffer
+
+pub buffer_left : (e : Refusal) (v : Reply) (front to : List ℕ) → refused e ≡ v → (refused e ≡ v) × (to ≡ written v front to)
+buffer_left e v front to p = (p, written_not (refused e) v front to p (refused_some e))
 
 pub pack_over : (n : ℕ) (R : ℕ → ℕ → Bool) (to after : List ℕ) (r v : Reply) → after ≡ bit_table n R ++ drop (4 * n) to → r ≡ v → r.number ≡ 0 → after ≡ written v (bit_table n R) to
 unfolding bit_table

@@ -1,5 +1,4 @@
-// What an accepted conversion writes over the front of a buffer, row after row. The starts of a row in the bytes and in the words are
-// carried along by adding n and 4, so that no product finds them.
+// What an accepted conversion writes over the front of a buffer, row after row.
 ghost use Rattle.std.specs.Prelude.{◌≡◌, false, ◌++◌, ◌+◌, ◌*◌, ◌≤◌, ◌<◌, length, take, drop};
 ghost use Rattle.model.specs.Sets.{bit, tab, upto};
 ghost use Rattle.sets.specs.NodeSets.{always, shifted};
@@ -11,7 +10,7 @@ ghost use Rattle.packing.specs.Parts.{row_bit, row_part};
 fn low_bit(b: bool) -> u64
     ensures { result ≡ bit b }
 {
-    b as u64
+    u64::from(b)
 }
 
 // The word of `count` bytes from a place on.
@@ -20,10 +19,8 @@ fn pack_word(bytes: &[u8], at: usize, count: usize) -> u64
     ensures { result ≡ word count (shifted at bytes.now) }
 {
     let mut w = 0;
-    let mut k = 0;
-    while k < count {
-        w = w | (low_bit(bytes[at + k] != 0) << k);
-        k += 1;
+    for k in 0..count {
+        w |= low_bit(bytes[at + k] != 0) << k;
     }
     w
 }
@@ -55,44 +52,14 @@ fn pack_row(bytes: &[u8], at: usize, n: usize) -> [u64; 4]
     [a, b, c, d]
 }
 
-// Four words are written from a place on; the others stay.
-fn put_row(words: &mut [u64], at: usize, r: [u64; 4])
-    requires { (at + 4 ≤ length words.old) × (length r ≡ 4) }
-    ensures { words.new ≡ take at words.old ++ r ++ drop (at + 4) words.old }
-{
-    words[at] = r[0];
-    words[at + 1] = r[1];
-    words[at + 2] = r[2];
-    words[at + 3] = r[3];
-}
-
 // The rows of a table of bytes become rows of bits.
 pub fn pack_into(n: usize, bytes: &[u8], words: &mut [u64])
     requires { (n ≤ 256) × ((length bytes.now ≡ n * n) × (4 * n ≤ length words.old)) }
     ensures { words.new ≡ packed n bytes.now ++ drop (4 * n) words.old }
 {
-    let mut at = 0;
-    let mut to = 0;
-    let mut x = 0;
-    while x < n {
-        let r = pack_row(bytes, at, n);
-        put_row(words, to, r);
-        at += n;
-        to += 4;
-        x += 1;
-    }
-}
-
-// So many bytes from a place on become 0; the others stay.
-fn clear(bytes: &mut [u8], at: usize, count: usize)
-    requires { at + count ≤ length bytes.old }
-    ensures { bytes.new
-        ≡ take at bytes.old ++ tab count (always false) ++ drop (at + count) bytes.old }
-{
-    let mut k = 0;
-    while k < count {
-        bytes[at + k] = 0;
-        k += 1;
+    for x in 0..n {
+        let r = pack_row(bytes, x * n, n);
+        words[4 * x..4 * x + 4].copy_from_slice(&r);
     }
 }
 
@@ -102,11 +69,9 @@ fn spread(w: u64, count: usize, bytes: &mut [u8], at: usize)
     ensures { bytes.new
         ≡ take at bytes.old ++ tab count (test_bit w) ++ drop (at + count) bytes.old }
 {
-    let mut k = 0;
-    while k < count {
+    for k in 0..count {
         let b = sets::byte(bits::test(w, k));
         bytes[at + k] = b;
-        k += 1;
     }
 }
 
@@ -116,8 +81,9 @@ fn unpack_word(w: u64, count: usize, bytes: &mut [u8], at: usize)
     ensures { bytes.new
         ≡ take at bytes.old ++ tab count (test_bit w) ++ drop (at + count) bytes.old }
 {
-    if w == 0 {
-        clear(bytes, at, count);
+    let empty = w == 0;
+    if empty {
+        bytes[at..at + count].fill(0);
         return;
     }
     spread(w, count, bytes, at);
@@ -129,18 +95,15 @@ pub fn unpack_row(words: &[u64], from: usize, n: usize, bytes: &mut [u8], at: us
     ensures { bytes.new
         ≡ take at bytes.old ++ tab n (row_bit words.now from) ++ drop (at + n) bytes.old }
 {
-    let mut i = from;
-    let mut y = 0;
-    while y + 64 <= n {
-        unpack_word(words[i], 64, bytes, at + y);
-        i += 1;
-        y += 64;
+    let whole = n / 64;
+    for i in 0..whole {
+        unpack_word(words[from + i], 64, bytes, at + 64 * i);
     }
-    let left = n - y;
+    let left = n % 64;
     if left == 0 {
         return;
     }
-    unpack_word(words[i], left, bytes, at + y);
+    unpack_word(words[from + whole], left, bytes, at + 64 * whole);
 }
 
 // The rows of a table of bits become rows of bytes.
@@ -148,13 +111,7 @@ pub fn unpack_into(n: usize, words: &[u64], bytes: &mut [u8])
     requires { (n ≤ 256) × ((4 * n ≤ length words.now) × (n * n ≤ length bytes.old)) }
     ensures { bytes.new ≡ unpacked n words.now ++ drop (n * n) bytes.old }
 {
-    let mut at = 0;
-    let mut from = 0;
-    let mut x = 0;
-    while x < n {
-        unpack_row(words, from, n, bytes, at);
-        at += n;
-        from += 4;
-        x += 1;
+    for x in 0..n {
+        unpack_row(words, 4 * x, n, bytes, x * n);
     }
 }

@@ -5,28 +5,25 @@
 pub mod convert;
 mod refusal;
 
+ghost use Rattle.model.specs.Refusals.{told};
 ghost use Rattle.packing.specs.Services.{PackLeaves, UnpackLeaves};
 
+use model::Refusal;
+
 // Bytes to bits. One pass over the bytes to check them and one to pack them.
-pub fn pack(n: usize, bytes: &[u8], words: &mut [u64]) -> model::Reply
-    ensures { PackLeaves n bytes.now words.old result words.new }
+pub fn pack(n: usize, bytes: &[u8], words: &mut [u64]) -> Result<(), Refusal>
+    ensures { PackLeaves n bytes.now words.old (told result) words.new }
 {
-    let v = refusal::check_pack(n, bytes, words.len());
-    if v.number != 0 {
-        return v;
-    }
+    refusal::check_pack(n, bytes, words.len())?;
     convert::pack_into(n, bytes, words);
-    v
+    Ok(())
 }
 
 // Bits to bytes. One pass over the words to check them and one over the bits.
-pub fn unpack(n: usize, words: &[u64], bytes: &mut [u8]) -> model::Reply
-    ensures { UnpackLeaves n words.now bytes.old result bytes.new }
+pub fn unpack(n: usize, words: &[u64], bytes: &mut [u8]) -> Result<(), Refusal>
+    ensures { UnpackLeaves n words.now bytes.old (told result) bytes.new }
 {
-    let v = refusal::check_unpack(n, words, bytes.len());
-    if v.number != 0 {
-        return v;
-    }
+    refusal::check_unpack(n, words, bytes.len())?;
     convert::unpack_into(n, words, bytes);
-    v
+    Ok(())
 }

@@ -1,9 +1,11 @@
 // What the two conversions check of all that they are lent.
 ghost use Rattle.std.specs.Prelude.{◌≡◌, ◌+◌, ◌*◌, ◌≤◌, ◌<◌, length};
 ghost use Rattle.model.specs.Sets.{any};
-ghost use Rattle.model.specs.Refusals.{lowest, verdict};
+ghost use Rattle.model.specs.Refusals.{IsLowest, told, verdict};
 ghost use Rattle.packing.specs.Services.{bad_size, stray_row, pack_checks, unpack_checks};
 ghost use Rattle.packing.specs.Parts.{stray_bit};
+
+use model::{Refusal, lowest};
 
 // Refusal 5: n is not from 1 to 256.
 fn is_bad_size(n: usize) -> bool
@@ -32,63 +34,48 @@ fn is_stray_row(n: usize, words: &[u64], x: usize) -> bool
     ensures { result ≡ stray_row n words.now x }
 {
     let mut found = false;
-    let mut i = 0;
-    while i < 4 {
+    for i in 0..4 {
         found = is_stray_word(words[4 * x + i], 64 * i, n) | found;
-        i += 1;
     }
     found
 }
 
-// The lowest row with such a bit, or n.
-fn lowest_stray_row(n: usize, words: &[u64]) -> usize
-    requires { (n ≤ 256) × (length words.now ≡ 4 * n) }
-    ensures { result ≡ lowest n (stray_row n words.now) }
-{
-    let mut x = 0;
-    while x < n {
-        if is_stray_row(n, words, x) {
-            return x;
-        }
-        x += 1;
-    }
-    n
-}
-
 // The checks of pack, for a buffer of so many words.
-pub fn check_pack(n: usize, bytes: &[u8], room: usize) -> model::Reply
-    ensures { result ≡ verdict (pack_checks n bytes.now room) }
+pub fn check_pack(n: usize, bytes: &[u8], room: usize) -> Result<(), Refusal>
+    ensures { told result ≡ verdict (pack_checks n bytes.now room) }
 {
-    let bad = is_bad_size(n);
-    if bad {
-        return model::reply_at(5, 0);
+    if is_bad_size(n) {
+        return Err(Refusal::TreeSize);
     }
-    let unlike = bytes.len() != n * n;
-    if unlike {
-        return model::reply_at(18, 0);
+    if bytes.len() != n * n {
+        return Err(Refusal::SetLength);
     }
-    let i = checks::lowest_bad_byte(bytes);
-    if i < bytes.len() {
-        return model::reply_at(19, i);
+    if let Some(i) = checks::lowest_bad_byte(bytes) {
+        return Err(Refusal::BadByte(i as u16));
     }
     checks::check_room(room, 4 * n)
 }
 
-// The checks of unpack, for a buffer of so many bytes.
-pub fn check_unpack(n: usize, words: &[u64], room: usize) -> model::Reply
-    ensures { result ≡ verdict (unpack_checks n words.now room) }
+// The lowest row with such a bit, if there is one.
+fn lowest_stray_row(n: usize, words: &[u64]) -> Option<usize>
+    requires { (n ≤ 256) × (length words.now ≡ 4 * n) }
+    ensures { IsLowest n (stray_row n words.now) result }
 {
-    let bad = is_bad_size(n);
-    if bad {
-        return model::reply_at(5, 0);
+    lowest(n, |x| is_stray_row(n, words, x))
+}
+
+// The checks of unpack, for a buffer of so many bytes.
+pub fn check_unpack(n: usize, words: &[u64], room: usize) -> Result<(), Refusal>
+    ensures { told result ≡ verdict (unpack_checks n words.now room) }
+{
+    if is_bad_size(n) {
+        return Err(Refusal::TreeSize);
     }
-    let unlike = words.len() != 4 * n;
-    if unlike {
-        return model::reply_at(18, 0);
+    if words.len() != 4 * n {
+        return Err(Refusal::SetLength);
     }
-    let x = lowest_stray_row(n, words);
-    if x < n {
-        return model::reply_at(28, x);
+    if let Some(x) = lowest_stray_row(n, words) {
+        return Err(Refusal::StrayBit(x as u16));
     }
     checks::check_room(room, n * n)
 }

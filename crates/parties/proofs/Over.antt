@@ -5,7 +5,11 @@ use mathlib.Core.Path.{◌≡◌, refl, sym, subst}
 use mathlib.Core.List.{List}
 use lib.ListN.{length, take}
 use lib.Seq.{length-take-le}
+use Rattle.std.specs.Prelude.{Ok, Err}
 use Rattle.model.specs.declared.Reply.{Reply}
+use Rattle.model.specs.declared.refusal.Refusal.{Refusal}
+use Rattle.model.specs.Refusals.{reply, refused, told_page, told_quick}
+use Rattle.model.proofs.Refusals.{refused_some}
 use Rattle.model.specs.declared.PageReply.{PageReply}
 use Rattle.model.specs.declared.QuickReply.{QuickReply}
 use Rattle.model.specs.declared.Cursor.{Cursor}
@@ -14,76 +18,70 @@ use Rattle.model.specs.Pages.{Outcome, unpaged}
 use Rattle.model.specs.Services.{quick_outcome, PageLeaves, Leaves, seen_quick}
 use Rattle.model.specs.Parties.{over_seen}
 use Rattle.model.proofs.Parties.{over_refused, over_accepted, leaves_refused, leaves_seen}
-use Rattle.view.specs.declared.Sight.{Sight}
 use Rattle.view.specs.View.{Looked}
-use Rattle.answers.specs.declared.Paged.{Paged}
-use Rattle.answers.specs.Search.{refused_page}
-use Rattle.quick.specs.declared.Quick.{Quick}
-use Rattle.quick.specs.Service.{plain_reply, quick_effort, counted_of}
+use Rattle.quick.specs.Service.{plain_reply, quick_effort}
 use Rattle.quick.specs.Service as over
 use Rattle.index.specs.declared.IndexReply.{IndexReply}
 use Rattle.index.specs.Index.{telling, index_reply, next_buffer, tags_buffer, IndexLeaves}
 use Rattle.parties.specs.Services.{seen_effort, SeenQuickLeaves, seen_index, BothLeave}
 
-module _ {t : List ℕ} {party : ℕ} {s : Sight} {own : List ℕ} (h : Looked t party s own) where
-  -- the tree stands at the front of its table
-  pub front_length : s.count ≡ length (take s.count own)
-  front_length = sym (length-take-le s.count own h.within)
+-- refused for table or party
 
-  -- one buffer
-
-  pub one_refused : {R : Type 0} (refused : Reply → R) (f : List ℕ → R × List ℕ) (to : List ℕ) (r : R) → r ≡ refused s.reply → (s.reply.number ≡ 0 → ⊥)
-      → Leaves (over_seen t party (λ v. (refused v, to)) f) r to
-  one_refused refused f to r e z = leaves_refused t party to refused f s.reply h.reply r e z
-
-  pub one_seen : {R : Type 0} (refused : Reply → R) (f : List ℕ → R × List ℕ) (to after : List ℕ) (r : R) → Leaves (f (take s.count own)) r after → s.reply.number ≡ 0
-      → Leaves (over_seen t party (λ v. (refused v, to)) f) r after
-  one_seen refused f to after r l z = leaves_seen t party to refused f s.reply h.reply (take s.count own) after r l (h.front z) z
+module _ {t : List ℕ} {party : ℕ} {e : Refusal} {own : List ℕ} (h : Looked t party (Err e) own) where
+  pub one_refused : {R : Type 0} (reply_to : Reply → R) (f : List ℕ → R × List ℕ) (to : List ℕ) → Leaves (over_seen t party (λ v. (reply_to v, to)) f) (reply_to (refused e)) to
+  one_refused reply_to f to = leaves_refused t party to reply_to f (refused e) h.reply (reply_to (refused e)) refl (refused_some e)
 
   -- any outcome, and what is said of it
+  pub any_refused : {A : Type 0} (P : A → Type 0) (reply_to : Reply → A) (f : List ℕ → A) → P (reply_to (refused e)) → P (over_seen t party reply_to f)
+  any_refused P reply_to f p = subst P (over_refused t party reply_to f (refused e) h.reply (refused_some e)) p
 
-  pub any_refused : {A : Type 0} (P : A → Type 0) (refused : Reply → A) (f : List ℕ → A) → P (refused s.reply) → (s.reply.number ≡ 0 → ⊥) → P (over_seen t party refused f)
-  any_refused P refused f p z = subst P (over_refused t party refused f s.reply h.reply z) p
+  pub page_refused : (f : List ℕ → Outcome) (c : Cursor) (buffer : List ℕ) → PageLeaves (over_seen t party (λ v. unpaged v c buffer) f) (told_page (Err e)) c buffer
+  page_refused f c buffer = any_refused (λ o. PageLeaves o (told_page (Err e)) c buffer) (λ v. unpaged v c buffer) f (refl, refl, refl)
 
-  pub any_seen : {A : Type 0} (P : A → Type 0) (refused : Reply → A) (f : List ℕ → A) → P (f (take s.count own)) → s.reply.number ≡ 0 → P (over_seen t party refused f)
-  any_seen P refused f p z = subst P (over_accepted t party refused f s.reply h.reply (take s.count own) (h.front z) z) p
+  pub quick_refused : (q : List ℕ) (columns : ℕ) (c : Cursor) (buffer : List ℕ) → SeenQuickLeaves t party q columns c buffer (told_quick (Err e)) c buffer
+  unfolding seen_quick seen_effort
+  quick_refused q columns c buffer = (
+    any_refused (λ o. PageLeaves o (plain_reply (told_quick (Err e))) c buffer) (λ v. unpaged v c buffer) (λ u. quick_outcome u q columns c buffer) (refl, refl, refl),
+    (any_refused (λ k. 0 ≡ k) (λ v. 0) (λ u. quick_effort u q columns c buffer) refl, omega arith),
+  )
 
-  -- pages
+  pub both_refused : (next tags : List ℕ) → BothLeave (seen_index t party next tags) (telling (refused e) 0 0) next tags
+  unfolding seen_index
+  both_refused next tags =
+      any_refused (λ o. BothLeave o (telling (refused e) 0 0) next tags) (λ v. (telling v 0 0, next, tags)) (λ u. (index_reply u next tags, next_buffer u next tags, tags_buffer u next tags))
+      (refl, refl, refl)
 
-  pub page_refused : (f : List ℕ → Outcome) (c : Cursor) (buffer : List ℕ) (r : Paged) → r ≡ refused_page s.reply c → (s.reply.number ≡ 0 → ⊥)
-      → PageLeaves (over_seen t party (λ v. unpaged v c buffer) f) r.reply r.cursor buffer
-  page_refused f c buffer r e z = any_refused (λ o. PageLeaves o r.reply r.cursor buffer) (λ v. unpaged v c buffer) f (rw e (refl, refl, refl)) z
+-- run on the tree that is seen
 
-  pub page_seen : (f : List ℕ → Outcome) (c : Cursor) (buffer : List ℕ) (r : PageReply) (after : Cursor) (rows : List ℕ) → PageLeaves (f (take s.count own)) r after rows → s.reply.number ≡ 0
+module _ {t : List ℕ} {party count : ℕ} {own : List ℕ} (h : Looked t party (Ok count) own) where
+  -- the tree stands at the front of its table
+  pub front_length : count ≡ length (take count own)
+  front_length = sym (length-take-le count own h.seen.within)
+
+  pub one_seen : {R : Type 0} (reply_to : Reply → R) (f : List ℕ → R × List ℕ) (to after : List ℕ) (r : R) → Leaves (f (take count own)) r after
+      → Leaves (over_seen t party (λ v. (reply_to v, to)) f) r after
+  one_seen reply_to f to after r l = leaves_seen t party to reply_to f (reply 0 0) h.reply (take count own) after r l h.seen.front refl
+
+  -- any outcome, and what is said of it
+  pub any_seen : {A : Type 0} (P : A → Type 0) (reply_to : Reply → A) (f : List ℕ → A) → P (f (take count own)) → P (over_seen t party reply_to f)
+  any_seen P reply_to f p = subst P (over_accepted t party reply_to f (reply 0 0) h.reply (take count own) h.seen.front refl) p
+
+  pub page_seen : (f : List ℕ → Outcome) (c : Cursor) (buffer : List ℕ) (r : PageReply) (after : Cursor) (rows : List ℕ) → PageLeaves (f (take count own)) r after rows
       → PageLeaves (over_seen t party (λ v. unpaged v c buffer) f) r after rows
-  page_seen f c buffer r after rows l z = any_seen (λ o. PageLeaves o r after rows) (λ v. unpaged v c buffer) f l z
+  page_seen f c buffer r after rows l = any_seen (λ o. PageLeaves o r after rows) (λ v. unpaged v c buffer) f l
 
-  module _ (q : List ℕ) (columns : ℕ) (c : Cursor) (buffer : List ℕ) where
-    pub quick_refused : (r : Quick) → r ≡ counted_of (refused_page s.reply c) 0 → (s.reply.number ≡ 0 → ⊥) → SeenQuickLeaves t party q columns c buffer r.reply r.cursor buffer
-    unfolding seen_quick seen_effort
-    quick_refused r e z = (
-      any_refused (λ o. PageLeaves o (plain_reply r.reply) r.cursor buffer) (λ v. unpaged v c buffer) (λ u. quick_outcome u q columns c buffer) (rw e (refl, refl, refl)) z,
-      (any_refused (λ k. r.reply.evaluations ≡ k) (λ v. 0) (λ u. quick_effort u q columns c buffer) (rw e) z, rw e (omega arith)),
-    )
+  pub quick_seen : (q : List ℕ) (columns : ℕ) (c : Cursor) (buffer : List ℕ) (r : QuickReply) (after : Cursor) (rows : List ℕ)
+      → over.QuickLeaves (take count own) q columns c buffer r after rows → SeenQuickLeaves t party q columns c buffer r after rows
+  unfolding seen_quick seen_effort
+  quick_seen q columns c buffer r after rows l = (
+    any_seen (λ o. PageLeaves o (plain_reply r) after rows) (λ v. unpaged v c buffer) (λ u. quick_outcome u q columns c buffer) l.0,
+    (
+      any_seen (λ k. r.evaluations ≡ k) (λ v. 0) (λ u. quick_effort u q columns c buffer) l.1.0,
+      subst (λ (u : List ℕ). r.evaluations ≤ 6 * size_of u * (r.count + 1)) h.seen.front l.1.1,
+    ),
+  )
 
-    pub quick_seen : (r : QuickReply) (after : Cursor) (rows : List ℕ) → over.QuickLeaves (take s.count own) q columns c buffer r after rows → s.reply.number ≡ 0
-        → SeenQuickLeaves t party q columns c buffer r after rows
-    unfolding seen_quick seen_effort
-    quick_seen r after rows l z = (
-      any_seen (λ o. PageLeaves o (plain_reply r) after rows) (λ v. unpaged v c buffer) (λ u. quick_outcome u q columns c buffer) l.0 z,
-      (
-        any_seen (λ k. r.evaluations ≡ k) (λ v. 0) (λ u. quick_effort u q columns c buffer) l.1.0 z,
-        subst (λ (u : List ℕ). r.evaluations ≤ 6 * size_of u * (r.count + 1)) (h.front z) l.1.1,
-      ),
-    )
-
-  -- two buffers
-
-  module _ (next tags : List ℕ) where
-    pub both_refused : (r : IndexReply) → r ≡ telling s.reply 0 0 → (s.reply.number ≡ 0 → ⊥) → BothLeave (seen_index t party next tags) r next tags
-    unfolding seen_index
-    both_refused r e z = any_refused (λ o. BothLeave o r next tags) (λ v. (telling v 0 0, next, tags)) (λ u. (index_reply u next tags, next_buffer u next tags, tags_buffer u next tags)) (e, refl, refl) z
-
-    pub both_seen : (r : IndexReply) (next' tags' : List ℕ) → IndexLeaves (take s.count own) next tags r next' tags' → s.reply.number ≡ 0 → BothLeave (seen_index t party next tags) r next' tags'
-    unfolding seen_index
-    both_seen r next' tags' l z = any_seen (λ o. BothLeave o r next' tags') (λ v. (telling v 0 0, next, tags)) (λ u. (index_reply u next tags, next_buffer u next tags, tags_buffer u next tags)) l z
+  pub both_seen : (next tags : List ℕ) (r : IndexReply) (next' tags' : List ℕ) → IndexLeaves (take count own) next tags r next' tags' → BothLeave (seen_index t party next tags) r next' tags'
+  unfolding seen_index
+  both_seen next tags r next' tags' l =
+      any_seen (λ o. BothLeave o r next' tags') (λ v. (telling v 0 0, next, tags)) (λ u. (index_reply u next tags, next_buffer u next tags, tags_buffer u next tags)) l

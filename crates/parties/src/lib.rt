@@ -1,11 +1,17 @@
 // The services that are lent a shared table and a party: each looks at the table for the party, and runs on the tree that the party sees.
 // None has a precondition: what is malformed is refused, and then nothing that was lent is altered. The look costs one pass over the
-// parents, one over tags and owners and one that writes the tree, whatever the service; all else is the service's own cost.
+// parents, one over tags and owners and one that writes the tree, whatever the service; all else is the service's own cost. The two lines of
+// a look stand in each of them: a function that ran a closure on the tree would learn nothing of the buffers that the closure writes.
 #![tactic(auto)]
 
 ghost use Rattle.std.specs.Prelude.{true, false};
 ghost use Rattle.model.specs.Services.{Leaves, seen_image, seen_pairs, seen_page, PageLeaves};
+ghost use Rattle.model.specs.Refusals.{told, told_counting, told_page, told_quick, cursor_after, cursor_after_quick};
+ghost use Rattle.index.specs.Index.{told_index};
 ghost use Rattle.parties.specs.Services.{seen_bits, seen_index, seen_lookup, SeenQuickLeaves, BothLeave};
+
+use index::Indexed;
+use model::{Cursor, Page, QuickPage, Refusal};
 
 // The image of a node set under the query, or under its converse where back is set, and how many nodes it has.
 fn image(
@@ -17,18 +23,13 @@ fn image(
     back: bool,
     from: &[u8],
     to: &mut [u8],
-) -> model::ImageReply
+) -> Result<usize, Refusal>
     ensures { Leaves
         (seen_image tree.now party query.now columns nodes.now back from.now to.old)
-        result to.new }
+        (told_counting result) to.new }
 {
     let mut table = [0u16; 512];
-    let sight = view::look(tree, party, &mut table);
-    let v = sight.reply;
-    if v.number != 0 {
-        return model::image_reply(v, 0);
-    }
-    let count = sight.count;
+    let count = view::look(tree, party, &mut table)?;
     images::image(&table[..count], query, columns, nodes, back, from, to)
 }
 
@@ -42,10 +43,10 @@ pub fn forwards(
     nodes: &[u16],
     from: &[u8],
     to: &mut [u8],
-) -> model::ImageReply
+) -> Result<usize, Refusal>
     ensures { Leaves
         (seen_image tree.now party query.now columns nodes.now false from.now to.old)
-        result to.new }
+        (told_counting result) to.new }
 {
     image(tree, party, query, columns, nodes, false, from, to)
 }
@@ -59,10 +60,10 @@ pub fn backwards(
     nodes: &[u16],
     from: &[u8],
     to: &mut [u8],
-) -> model::ImageReply
+) -> Result<usize, Refusal>
     ensures { Leaves
         (seen_image tree.now party query.now columns nodes.now true from.now to.old)
-        result to.new }
+        (told_counting result) to.new }
 {
     image(tree, party, query, columns, nodes, true, from, to)
 }
@@ -75,18 +76,13 @@ pub fn pairs(
     columns: usize,
     nodes: &[u16],
     to: &mut [u8],
-) -> model::Reply
+) -> Result<(), Refusal>
     ensures { Leaves
         (seen_pairs tree.now party query.now columns nodes.now to.old)
-        result to.new }
+        (told result) to.new }
 {
     let mut table = [0u16; 512];
-    let sight = view::look(tree, party, &mut table);
-    let v = sight.reply;
-    if v.number != 0 {
-        return v;
-    }
-    let count = sight.count;
+    let count = view::look(tree, party, &mut table)?;
     images::pairs(&table[..count], query, columns, nodes, to)
 }
 
@@ -99,62 +95,47 @@ pub fn pairs_bits(
     columns: usize,
     nodes: &[u16],
     words: &mut [u64],
-) -> model::Reply
+) -> Result<(), Refusal>
     ensures { Leaves
         (seen_bits tree.now party query.now columns nodes.now words.old)
-        result words.new }
+        (told result) words.new }
 {
     let mut table = [0u16; 512];
-    let sight = view::look(tree, party, &mut table);
-    let v = sight.reply;
-    if v.number != 0 {
-        return v;
-    }
-    let count = sight.count;
+    let count = view::look(tree, party, &mut table)?;
     relations::pairs(&table[..count], query, columns, nodes, words)
 }
 
-// The page after a cursor, by value: the reply, and the cursor after it.
+// The page after a cursor, and the cursor after it.
 pub fn page_from(
     tree: &[u16],
     party: u16,
     query: &[u16],
     columns: usize,
-    cursor: model::Cursor,
+    cursor: Cursor,
     rows: &mut [u16],
-) -> answers::Paged
+) -> Result<Page, Refusal>
     ensures { PageLeaves (seen_page tree.now party query.now columns cursor rows.old)
-        result.reply result.cursor rows.new }
+        (told_page result) (cursor_after cursor result) rows.new }
 {
     let mut table = [0u16; 512];
-    let sight = view::look(tree, party, &mut table);
-    let v = sight.reply;
-    if v.number != 0 {
-        return answers::refused(v, cursor);
-    }
-    let count = sight.count;
+    let count = view::look(tree, party, &mut table)?;
     answers::page_from(&table[..count], query, columns, cursor, rows)
 }
 
-// The same page, found variable by variable, by value: the reply, with the evaluations that were made, and the cursor after it.
+// The same page, found variable by variable, with the evaluations that were made.
 pub fn quick_page_from(
     tree: &[u16],
     party: u16,
     query: &[u16],
     columns: usize,
-    cursor: model::Cursor,
+    cursor: Cursor,
     rows: &mut [u16],
-) -> quick::Quick
+) -> Result<QuickPage, Refusal>
     ensures { SeenQuickLeaves tree.now party query.now columns cursor rows.old
-        result.reply result.cursor rows.new }
+        (told_quick result) (cursor_after_quick cursor result) rows.new }
 {
     let mut table = [0u16; 512];
-    let sight = view::look(tree, party, &mut table);
-    let v = sight.reply;
-    if v.number != 0 {
-        return quick::refused(v, cursor);
-    }
-    let count = sight.count;
+    let count = view::look(tree, party, &mut table)?;
     quick::page_from(&table[..count], query, columns, cursor, rows)
 }
 
@@ -164,18 +145,15 @@ pub fn build_index(
     party: u16,
     next: &mut [u16],
     tags: &mut [u16],
-) -> index::IndexReply
+) -> Result<Indexed, Refusal>
     ensures { BothLeave (seen_index tree.now party next.old tags.old)
-        result next.new tags.new }
+        (told_index result) next.new tags.new }
 {
     let mut table = [0u16; 512];
-    let sight = view::look(tree, party, &mut table);
-    let v = sight.reply;
-    if v.number != 0 {
-        return index::reply(v, 0, 0);
+    match view::look(tree, party, &mut table) {
+        Ok(count) => index::build(&table[..count], next, tags),
+        Err(e) => Err(e),
     }
-    let count = sight.count;
-    index::build(&table[..count], next, tags)
 }
 
 // The descendants of a node that have a tag, by the index that is lent, and how many they are.
@@ -186,16 +164,11 @@ pub fn descendants(
     start: u16,
     tag: u16,
     to: &mut [u8],
-) -> model::ImageReply
+) -> Result<usize, Refusal>
     ensures { Leaves (seen_lookup tree.now party next.now start tag to.old)
-        result to.new }
+        (told_counting result) to.new }
 {
     let mut table = [0u16; 512];
-    let sight = view::look(tree, party, &mut table);
-    let v = sight.reply;
-    if v.number != 0 {
-        return model::image_reply(v, 0);
-    }
-    let count = sight.count;
+    let count = view::look(tree, party, &mut table)?;
     lookup::descendants(&table[..count], next, start, tag, to)
 }

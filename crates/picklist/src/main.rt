@@ -46,12 +46,10 @@ fn print<W: Write>(clock: &impl Clock, to: &mut W, file: &[u8]) -> u8
 // Reads one byte more than a job file may have, so that a file that is too long is seen to be. A read that fails is no job file.
 fn run(rt: &HostRuntime) -> u8 {
     let mut file = [0; 4097];
-    let got = streams::read_whole(rt, &mut rt.stdin(), &mut file);
-    if !got.ok {
-        return b'2';
+    match streams::read_whole(rt, &mut rt.stdin(), &mut file) {
+        Ok(n) => print(rt, &mut rt.stdout(), &file[..n]),
+        Err(_) => b'2',
     }
-    let n = got.count;
-    print(rt, &mut rt.stdout(), &file[..n])
 }
 
 // Whether the program has an argument.

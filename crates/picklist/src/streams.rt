@@ -1,17 +1,12 @@
 // Whole buffers from readers and to writers, whatever one call moves. After a call that moved a part, or that a signal ended
 // before it moved a byte, comes the next; where a descriptor that does not wait has nothing or no room now, the program waits a
 // little and tries again; any other failure ends it, so that nothing is written behind a gap.
+ghost use Rattle.std.specs.Prelude.{MatchResult};
 ghost use Rattle.io.specs.Counts.{IsPrefixLen};
 
-use std::io::{Error, ErrorKind, Read, Result, Write};
+use std::io;
+use std::io::{Error, ErrorKind, Read, Write};
 use std::time::{Clock, Duration};
-
-// What was read: so many bytes at the front of the buffer, and whether no read failed.
-#[derive(Drop)]
-pub struct Got {
-    pub count: usize,
-    pub ok: bool,
-}
 
 // Lets a millisecond pass: there is no call that waits for a descriptor.
 fn pause(clock: &impl Clock) {
@@ -32,7 +27,7 @@ fn again(clock: &impl Clock, error: &Error) -> bool {
 }
 
 // Whether to go on after what a read or a write has just answered.
-fn goes_on(clock: &impl Clock, answer: &Result<usize>) -> bool {
+fn goes_on(clock: &impl Clock, answer: &io::Result<usize>) -> bool {
     match answer {
         Ok(n) => *n > 0,
         Err(error) => again(clock, error),
@@ -40,7 +35,7 @@ fn goes_on(clock: &impl Clock, answer: &Result<usize>) -> bool {
 }
 
 // How many bytes of the buffer that it was lent a read or a write has moved: none where it failed.
-fn count(answer: &Result<usize>, buf: &[u8]) -> usize
+fn count(answer: &io::Result<usize>, buf: &[u8]) -> usize
     ensures { IsPrefixLen result buf.now }
 {
     match answer {
@@ -50,41 +45,41 @@ fn count(answer: &Result<usize>, buf: &[u8]) -> usize
 }
 
 // Writes all of buf, or stops at the first write that fails or takes nothing, and tells which. A proved loop has to end, and
-// nothing says that a descriptor ever has room. So the loops here count their turns down, from a number that no run uses up.
+// nothing says that a descriptor ever has room. So the loops here have a number of turns that no run uses up.
 pub fn write_whole<W: Write>(clock: &impl Clock, to: &mut W, buf: &[u8]) -> bool {
     let mut done = 0;
-    let mut turns = u64::MAX;
-    while turns > 0 && done < buf.len() {
+    for _ in 0..u64::MAX {
         let rest = &buf[done..];
+        if rest.is_empty() {
+            return true;
+        }
         let put = to.write(rest);
         if !goes_on(clock, &put) {
             return false;
         }
         done += count(&put, rest);
-        turns -= 1;
     }
-    done == buf.len()
+    false
 }
 
-// Reads until buf is full, the input ends or a read fails.
-pub fn read_whole<R: Read>(clock: &impl Clock, from: &mut R, buf: &mut [u8]) -> Got
-    ensures { IsPrefixLen result.count buf.new }
+// Reads until buf is full or the input ends, and tells how many bytes came; or how many came before a read failed.
+pub fn read_whole<R: Read>(
+    clock: &impl Clock,
+    from: &mut R,
+    buf: &mut [u8],
+) -> Result<usize, usize>
+    ensures { MatchResult result (λ n. IsPrefixLen n buf.new) (λ n. IsPrefixLen n buf.new) }
 {
     let mut done = 0;
-    let mut turns = u64::MAX;
-    while turns > 0 && done < buf.len() {
+    for _ in 0..u64::MAX {
+        if done == buf.len() {
+            return Ok(done);
+        }
         let got = from.read(&mut buf[done..]);
         if !goes_on(clock, &got) {
-            return Got {
-                count: done,
-                ok: got.is_ok(),
-            };
+            return if got.is_ok() { Ok(done) } else { Err(done) };
         }
         done += count(&got, &buf[done..]);
-        turns -= 1;
     }
-    Got {
-        count: done,
-        ok: done == buf.len(),
-    }
+    Err(done)
 }

@@ -3,11 +3,12 @@ use Prim.Native.Nat.{ℕ, zero, suc, ◌+◌, ◌≤◌, ◌<◌, max}
 use native.Mathlib.Nat.{not-suc-le-zero}
 use native.Mathlib.Omega.{arith}
 use mathlib.Core.Path.{◌≡◌, refl, sym, ap, ◌∙◌}
-use mathlib.Core.Bool.{Bool, true, false, not, ◌||◌, cond}
+use mathlib.Core.Bool.{Bool, true, false, ◌||◌, cond}
 use mathlib.Core.List.{List}
 use lib.Dec.{eqb}
+use denote.Enum.Bare.{sameb}
 use lib.ListN.{get_or}
-use borrow.Author.Tests.{eqb-true, not-true, not-false}
+use borrow.Author.Tests.{eqb-true}
 use Rattle.model.specs.declared.Entry.{Entry}
 use Rattle.model.specs.Encoding.{columns}
 use Rattle.model.specs.QueryTable.{entries_of, kind, left, right, entry, last_of}
@@ -15,8 +16,13 @@ use Rattle.model.specs.Kinds.{Field, wants_path, wants_expr, wants_variable, kin
 use Rattle.model.specs.Accepted.{Formed}
 use Rattle.model.proofs.Booleans.{Seen, seen, no_yes, not_yes}
 use Rattle.model.proofs.Booleans.Seen.{yes!, no! }
-use Rattle.model.proofs.Formed.{left_lower, right_lower}
-use Rattle.aside.specs.Aside.{term_at, NumbersTo}
+use Rattle.model.specs.declared.kind.Kind.{Kind}
+use Rattle.model.specs.declared.kind.Kind.TheVariants.{Except, Not}
+use Rattle.model.specs.contracts.kind.Kind.{the_type}
+use Rattle.model.specs.Numbers.{kind_number}
+use Rattle.aside.specs.declared.Operands.TheVariants as Operands
+use Rattle.aside.specs.Aside.{term_at, NumbersTo, PassedTo, OperandsOf}
+use Rattle.aside.proofs.Numbers.{kept_for}
 use Rattle.aside.proofs.Terms.{Form, form}
 use Rattle.aside.proofs.Terms.Form.{none!, one!, two! }
 use Rattle.pruning.specs.Pruning.{reach_in, bound_in, reach_at, bound_at, Named}
@@ -140,62 +146,50 @@ reach_named q ok named = reach_below q ok 3 named
 
 -- one entry, from the numbers of those before it
 
-module _ {q : List ℕ} {e : ℕ} {f : Entry} (fe : f ≡ entry q e) (ok : Formed q) (em : e < entries_of q) where
-  module _ (v : Bool) (s : v ≡ names_variable f.kind) where
+is_not : (k : Kind) → sameb the_type k Not ≡ eqb (kind_number k) 9
+is_not Not = refl
+is_not k = refl
+
+is_except : (k : Kind) → sameb the_type k Except ≡ eqb (kind_number k) 4
+is_except Except = refl
+is_except k = refl
+
+module _ {q : List ℕ} {e : ℕ} {kept : List ℕ} (pass : PassedTo (reach_at q) q e kept) where
+  module _ {v : Bool} {f : Entry} (fe : f ≡ entry q e) (s : v ≡ names_variable f.kind) where
     names : v ≡ true → names_variable (kind q e) ≡ true
     names h = rw fe at (sym s) ∙ h
 
     pub name_few : Named q → v ≡ true → f.left < 3
-    name_few named h = rw fe (named e em (names h))
+    name_few named h = rw fe (named e pass.1.1.1 (names h))
 
     pub reached_name : v ≡ true → (o : ℕ) → o ≡ f.left + 1 → o ≡ reach_at q e
-    reached_name h o g = g ∙ rw fe (omega (arith, reach_name q ok e em (names h)))
+    reached_name h o g = g ∙ rw fe (omega (arith, reach_name q pass.0 e pass.1.1.1 (names h)))
 
-    pub reached_none : v ≡ false → (b : Bool) → b ≡ has_left f.kind → not b ≡ true → 0 ≡ reach_at q e
-    reached_none h b p k = sym (reach_none q ok e em (rw fe at (sym s) ∙ h) (rw fe at (sym p) ∙ not-true b k))
+    pub reached_none : v ≡ false → OperandsOf q e Operands.None → 0 ≡ reach_at q e
+    reached_none h a = sym (reach_none q pass.0 e pass.1.1.1 (rw fe at (sym s) ∙ h) a)
 
-  pub bound_nothing : (b : Bool) → b ≡ has_left f.kind → not b ≡ true → 0 ≡ bound_at q e
-  bound_nothing b p h = sym (bound_none q ok e em (rw fe at (sym p) ∙ not-true b h))
+  pub reached_one : {i : ℕ} → OperandsOf q e (Operands.One i) → get_or kept i 0 ≡ reach_at q e
+  reached_one a = kept_for (reach_at q) pass.1.1.0 a.1.1.0 a.1.1.1 ∙ sym (reach_one q pass.0 e pass.1.1.1 a.0 a.1.0)
 
-  module _ (b : Bool) (p : b ≡ has_left f.kind) (h : not b ≡ false) where
-    has_left_lem : has_left (kind q e) ≡ true
-    has_left_lem = rw fe at (sym p) ∙ not-false b h
+  pub reached_two : {i j : ℕ} → OperandsOf q e (Operands.Two i j) → (o : ℕ) → o ≡ max (get_or kept i 0) (get_or kept j 0) → o ≡ reach_at q e
+  reached_two a o g = g ∙ rw (kept_for (reach_at q) pass.1.1.0 a.1.0 a.1.1.1.0, kept_for (reach_at q) pass.1.1.0 a.1.1.0 a.1.1.1.1) (sym (reach_two q pass.0 e pass.1.1.1 a.0))
 
-    at_left : (g : ℕ → ℕ) (n : ℕ) → e ≤ n → (kept : List ℕ) → NumbersTo g n kept → get_or kept f.left 0 ≡ g (left q e)
-    at_left g n w kept c = let l : left q e < e = left_lower q ok e em has_left_lem in rw fe (c.at (left q e) (omega arith))
+module _ {q : List ℕ} {e : ℕ} {reach kept : List ℕ} (all : NumbersTo (reach_at q) (entries_of q) reach) (pass : PassedTo (bound_at q) q e kept) where
+  pub bound_nothing : OperandsOf q e Operands.None → 0 ≡ bound_at q e
+  bound_nothing a = sym (bound_none q pass.0 e pass.1.1.1 a)
 
-    module _ (d : Bool) (r : d ≡ has_right f.kind) where
-      module _ (k : not d ≡ true) where
-        only : has_right (kind q e) ≡ false
-        only = rw fe at (sym r) ∙ not-true d k
+  all_for : {x i : ℕ} → x ≡ i → x < e → get_or reach x 0 ≡ reach_at q i
+  all_for p l = let m = pass.1.1.1 in kept_for (reach_at q) all p (omega arith)
 
-        pub reached_one : (kept : List ℕ) → NumbersTo (reach_at q) e kept → get_or kept f.left 0 ≡ reach_at q e
-        reached_one kept c = at_left (reach_at q) e (omega arith) kept c ∙ sym (reach_one q ok e em has_left_lem only)
+  module _ (k : Kind) {f : Entry} (p : kind_number k ≡ f.kind) (fe : f ≡ entry q e) where
+    known : kind_number k ≡ kind q e
+    known = p ∙ ap (λ (f : Entry). f.kind) fe
 
-      module _ (k : not d ≡ false) where
-        has_right_lem : has_right (kind q e) ≡ true
-        has_right_lem = rw fe at (sym r) ∙ not-false d k
+    pub bound_left : {i : ℕ} → OperandsOf q e (Operands.One i) → (b : Bool) → b ≡ sameb the_type k Not → (o : ℕ) → o ≡ cond b (get_or reach i 0) (get_or kept i 0) → o ≡ bound_at q e
+    bound_left a b t o g = g ∙ rw (t, is_not k, known, all_for a.1.1.0 a.1.1.1, kept_for (bound_at q) pass.1.1.0 a.1.1.0 a.1.1.1) (sym (bound_one q pass.0 e pass.1.1.1 a.0 a.1.0))
 
-        at_right : (g : ℕ → ℕ) (n : ℕ) → e ≤ n → (kept : List ℕ) → NumbersTo g n kept → get_or kept f.right 0 ≡ g (right q e)
-        at_right g n w kept c = let l : right q e < e = right_lower q ok e em has_right_lem in rw fe (c.at (right q e) (omega arith))
-
-        pub reached_two : (kept : List ℕ) → NumbersTo (reach_at q) e kept → (o : ℕ) → o ≡ max (get_or kept f.left 0) (get_or kept f.right 0) → o ≡ reach_at q e
-        reached_two kept c o g =
-            g ∙ rw (at_left (reach_at q) e (omega arith) kept c, at_right (reach_at q) e (omega arith) kept c) (sym (reach_two q ok e em has_right_lem))
-
-    module _ (reach kept : List ℕ) (c : NumbersTo (reach_at q) (entries_of q) reach) (w : NumbersTo (bound_at q) e kept) (a : ℕ) (u : a ≡ cond (eqb f.kind 9) (get_or reach f.left 0) (get_or kept f.left 0)) where
-      from_left : a ≡ cond (eqb (kind q e) 9) (reach_at q (left q e)) (bound_at q (left q e))
-      from_left = u ∙ rw (at_left (reach_at q) (entries_of q) (omega arith) reach c, at_left (bound_at q) e (omega arith) kept w) (rw fe)
-
-      module _ (d : Bool) (r : d ≡ has_right f.kind) where
-        pub bound_left : not d ≡ true → a ≡ bound_at q e
-        bound_left k = from_left ∙ sym (bound_one q ok e em has_left_lem (only d r k))
-
-        pub bound_both : not d ≡ false → (b : ℕ) → b ≡ cond (eqb f.kind 4) (get_or reach f.right 0) (get_or kept f.right 0) → (o : ℕ) → o ≡ max a b → o ≡ bound_at q e
-        bound_both k b v o g =
-            let x : a ≡ bound_at q (left q e) = from_left ∙ rw (not_two (kind q e) (has_right_lem d r k)) in
-            let y : b ≡ cond (eqb (kind q e) 4) (reach_at q (right q e)) (bound_at q (right q e)) = v ∙ rw (at_right d r k (reach_at q) (entries_of q) (omega arith) reach c, at_right d r k (bound_at q) e (omega arith) kept w) (rw fe) in
-            g ∙ rw (x, y) (sym (bound_two q ok e em (has_right_lem d r k)))
+    pub bound_both : {i j : ℕ} → OperandsOf q e (Operands.Two i j) → (b : Bool) → b ≡ sameb the_type k Except → (r : ℕ) → r ≡ cond b (get_or reach j 0) (get_or kept j 0) → (o : ℕ) → o ≡ max (get_or kept i 0) r → o ≡ bound_at q e
+    bound_both a b t r w o g = g ∙ rw (w, t, is_except k, known, kept_for (bound_at q) pass.1.1.0 a.1.0 a.1.1.1.0, all_for a.1.1.0 a.1.1.1.1, kept_for (bound_at q) pass.1.1.0 a.1.1.0 a.1.1.1.1) (sym (bound_two q pass.0 e pass.1.1.1 a.0))
 
 -- the end of the pass: the last entry
 module _ (q : List ℕ) (e : ℕ) (kept : List ℕ) (w : NumbersTo (bound_at q) e kept) (l : entries_of q ≤ e) (some : 0 < entries_of q) where

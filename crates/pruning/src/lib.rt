@@ -11,8 +11,11 @@
 ghost use Rattle.std.specs.Prelude.{◌≡◌, cond, ◌+◌, ◌≤◌, ◌<◌, get_or};
 ghost use Rattle.model.specs.QueryTable.{entries_of, last_of};
 ghost use Rattle.model.specs.Accepted.{Formed};
-ghost use Rattle.aside.specs.Aside.{NumbersTo};
+ghost use Rattle.aside.specs.Aside.{NumbersTo, PassedTo};
 ghost use Rattle.pruning.specs.Pruning.{reach_at, bound_at, Named};
+
+use aside::Operands;
+use model::Kind;
 
 // The first variables, up to one of the three.
 fn up_to(v: usize) -> u8
@@ -23,31 +26,19 @@ fn up_to(v: usize) -> u8
 }
 
 // The variables of entry e, from those of the entries before it.
-fn reach_of(query: &[u16], kept: [u8; 66], e: usize) -> u8
-    requires { Formed query.now
-        × ((entries_of query.now ≤ 66)
-        × (Named query.now × (NumbersTo (reach_at query.now) e kept × (e < entries_of query.now)))) }
+fn reach_of(query: &[u16], e: usize, kept: [u8; 66]) -> u8
+    requires { Named query.now × PassedTo (reach_at query.now) query.now e kept }
     ensures { result ≡ reach_at query.now e }
 {
-    let f = query::entry_at(query, e);
-    let k = f.kind;
-    let names = query::names_variable(k);
-    if names {
-        return up_to(f.left);
+    match aside::operands_at(query, e) {
+        Operands::None => {
+            let f = query::entry_at(query, e);
+            let names = query::names_variable(f.kind);
+            if names { up_to(f.left) } else { 0 }
+        }
+        Operands::One(i) => kept[i],
+        Operands::Two(i, j) => kept[i].max(kept[j]),
     }
-    let some = query::has_left(k);
-    if !some {
-        return 0;
-    }
-    let i = f.left;
-    let a = kept[i];
-    let two = query::has_right(k);
-    if !two {
-        return a;
-    }
-    let j = f.right;
-    let b = kept[j];
-    aside::larger(a, b)
 }
 
 // For each entry, the variables that stand in it: one more than the highest of them, 0 if there is none.
@@ -55,15 +46,13 @@ pub fn reaches(query: &[u16]) -> [u8; 66]
     requires { Formed query.now × ((entries_of query.now ≤ 66) × Named query.now) }
     ensures { NumbersTo (reach_at query.now) (entries_of query.now) result }
 {
-    let n = query.len() / 4;
-    let mut kept = [0u8; 66];
-    let mut e = 0;
-    while e < n {
-        let k = reach_of(query, kept, e);
-        kept[e] = k;
-        e += 1;
-    }
-    kept
+    aside::number_entries(
+        query,
+        |e, kept|
+            requires { Named query.now × PassedTo (reach_at query.now) query.now e kept }
+            ensures { result ≡ reach_at query.entry.now e }
+        { reach_of(query, e, kept) },
+    )
 }
 
 // What operand i adds to the variables that must be bound: all of its own where it stands at a negative place.
@@ -71,33 +60,21 @@ fn operand(negative: bool, reach: [u8; 66], kept: [u8; 66], i: usize) -> u8
     requires { i < 66 }
     ensures { result ≡ cond negative (get_or reach i 0) (get_or kept i 0) }
 {
-    if negative {
-        return reach[i];
-    }
-    kept[i]
+    if negative { reach[i] } else { kept[i] }
 }
 
 // The variables at a negative place in entry e, from those of the entries before it and all variables of these.
-fn bound_of(query: &[u16], reach: [u8; 66], kept: [u8; 66], e: usize) -> u8
-    requires { Formed query.now
-        × ((entries_of query.now ≤ 66)
-        × (NumbersTo (reach_at query.now) (entries_of query.now) reach
-        × (NumbersTo (bound_at query.now) e kept × (e < entries_of query.now)))) }
+fn bound_of(query: &[u16], reach: [u8; 66], e: usize, kept: [u8; 66]) -> u8
+    requires { NumbersTo (reach_at query.now) (entries_of query.now) reach
+        × PassedTo (bound_at query.now) query.now e kept }
     ensures { result ≡ bound_at query.now e }
 {
-    let f = query::entry_at(query, e);
-    let k = f.kind;
-    let some = query::has_left(k);
-    if !some {
-        return 0;
+    let kind = model::kind_of(query::entry_at(query, e).kind);
+    match aside::operands_at(query, e) {
+        Operands::None => 0,
+        Operands::One(i) => operand(kind == Kind::Not, reach, kept, i),
+        Operands::Two(i, j) => kept[i].max(operand(kind == Kind::Except, reach, kept, j)),
     }
-    let a = operand(k == 9, reach, kept, f.left);
-    let two = query::has_right(k);
-    if !two {
-        return a;
-    }
-    let b = operand(k == 4, reach, kept, f.right);
-    aside::larger(a, b)
 }
 
 // How many variables the shortest prefix has that binds every variable at a negative place: only behind such a prefix can a block of
@@ -107,13 +84,12 @@ pub fn bound(query: &[u16]) -> usize
     ensures { result ≡ bound_at query.now (last_of query.now) }
 {
     let reach = reaches(query);
-    let n = query.len() / 4;
-    let mut kept = [0u8; 66];
-    let mut e = 0;
-    while e < n {
-        let k = bound_of(query, reach, kept, e);
-        kept[e] = k;
-        e += 1;
-    }
-    kept[n - 1] as usize
+    let kept = aside::number_entries(
+        query,
+        |e, kept|
+            requires { NumbersTo (reach_at query.now) (entries_of query.now) reach × PassedTo (bound_at query.now) query.now e kept }
+            ensures { result ≡ bound_at query.entry.now e }
+        { bound_of(query, reach, e, kept) },
+    );
+    usize::from(kept[query.len() / 4 - 1])
 }

@@ -2,16 +2,17 @@
 use Prim.Native.Nat.{ℕ, ◌+◌, ◌*◌, ◌≤◌}
 use native.Mathlib.Omega.{arith}
 use mathlib.Core.Path.{◌≡◌, refl, sym, ap, ◌∙◌, subst}
-use mathlib.Core.Bool.{true}
+use mathlib.Core.Bool.{Bool, true, false}
 use mathlib.Core.List.{List, ◌++◌}
 use lib.ListN.{length}
-use borrow.Author.Tests.{eq-eqb, ne_eqb}
+use lib.Dec.{eqb}
+use borrow.Author.Tests.{eqb-true, eq-eqb, ne_eqb}
 use Rattle.model.specs.declared.Cursor.{Cursor}
 use Rattle.model.specs.declared.Reply.{Reply}
 use Rattle.model.specs.declared.PageReply.{PageReply}
 use Rattle.model.specs.Tree.{tree_of, size_of}
 use Rattle.model.specs.QueryTable.{last_of}
-use Rattle.model.specs.Refusals.{verdict}
+use Rattle.model.specs.Refusals.{verdict, reply, refused, told_page, told_quick}
 use Rattle.model.specs.Checks.{tree_checks, query_checks, cursor_checks, room_checks, page_checks, quick_checks}
 use Rattle.model.specs.Sharing.{sharing_checks}
 use Rattle.model.specs.Accepted.{Ordered, Below, Shaped}
@@ -24,13 +25,15 @@ use Rattle.model.proofs.Rule.{query_unshared}
 use Rattle.model.proofs.Quick.{quick_accepts, quick_plain, quick_refused}
 use Rattle.checks.proofs.Verdicts.{zero_of, listing_numbered, stop_both, pass_both}
 use Rattle.tree.specs.Links.{PreviousSiblings}
-use Rattle.answers.specs.declared.Paged.{Paged}
 use Rattle.answers.proofs.Accepted.{page_tree, page_cursor, page_listed}
-use Rattle.quick.specs.declared.Quick.{Quick}
+use Rattle.std.specs.Prelude.{Ok, Err}
+use Rattle.model.specs.declared.QuickPage.{QuickPage}
+use Rattle.model.specs.declared.refusal.Refusal.{Refusal}
+use Rattle.model.proofs.Booleans.{no_yes}
+use Rattle.model.proofs.Refusals.{refused_some}
 use Rattle.quick.specs.Effort.{effort}
 use Rattle.quick.specs.Search.{Ready}
-use Rattle.answers.specs.Search.{refused_page}
-use Rattle.quick.specs.Service.{plain_reply, quick_effort, counted_of, plain_of, QuickLeaves}
+use Rattle.quick.specs.Service.{quick_effort, PageWritten, QuickLeaves}
 
 sharing_numbered : (q : List ℕ) → numbered (sharing_checks q) ≡ true
 unfolding sharing_checks numbered
@@ -93,32 +96,40 @@ module _ (t q : List ℕ) (columns : ℕ) (c : Cursor) (room : ℕ) (v : Reply) 
 
 -- What a call leaves.
 
-module _ (t q : List ℕ) (columns : ℕ) (c : Cursor) (buffer : List ℕ) (v : Reply) (p : v ≡ verdict (quick_checks t q columns c (length buffer))) where
-  pub leaves_refused : (v.number ≡ 0 → ⊥) → (r : Quick) → r ≡ counted_of (refused_page v c) 0 → QuickLeaves t q columns c buffer r.reply r.cursor buffer
+module _ (t q : List ℕ) (columns : ℕ) (c : Cursor) (buffer : List ℕ) where
+  pub leaves_refused : (e : Refusal) → refused e ≡ verdict (quick_checks t q columns c (length buffer)) → QuickLeaves t q columns c buffer (told_quick (Err e)) c buffer
   unfolding quick_outcome quick_effort
-  leaves_refused z r e = rw (e, ← p, ne_eqb v.number 0 z) ((refl, refl, refl), (rw (ne_eqb v.number 0 z), omega arith))
+  leaves_refused e p =
+      let z : (refused e).number ≡ 0 → ⊥ = refused_some e in
+      rw (← p, ne_eqb (refused e).number 0 z) ((refl, refl, refl), (rw (ne_eqb (refused e).number 0 z), omega arith))
 
-  pub leaves_accepted : v.number ≡ 0 → (r : Quick) (rows : List ℕ) → PageLeaves (paged columns (answers t q columns) c buffer) (plain_reply r.reply) r.cursor rows
-      → r.reply.evaluations ≤ 6 * size_of t * (r.reply.count + 1) → r.reply.evaluations ≡ effort (size_of t) columns c (after columns (answers t q columns) c) r.reply.count
-      → QuickLeaves t q columns c buffer r.reply r.cursor rows
+  pub leaves_accepted : reply 0 0 ≡ verdict (quick_checks t q columns c (length buffer)) → (r : QuickPage) (rows : List ℕ) → PageWritten t q columns c buffer r rows
+      → QuickLeaves t q columns c buffer (told_quick (Ok r)) r.page.cursor rows
   unfolding quick_outcome quick_effort
-  leaves_accepted z r rows h l e = (
-    rw (← p, eq-eqb v.number 0 z) h,
-    (e ∙ rw (← p, eq-eqb v.number 0 z) (ap (λ (x : PageReply). effort (size_of t) columns c (after columns (answers t q columns) c) x.count) h.0), l),
+  leaves_accepted p r rows (h, (l, e)) = (
+    rw (← p) h,
+    (e ∙ rw (← p) (ap (λ (x : PageReply). effort (size_of t) columns c (after columns (answers t q columns) c) x.count) h.0), l),
   )
 
 -- The page by whichever way the query allows.
 
-module _ (t q : List ℕ) (columns : ℕ) (c : Cursor) (buffer rows : List ℕ) (p : Quick) (h : QuickLeaves t q columns c buffer p.reply p.cursor rows) where
-  number : p.reply.number ≡ (quick_outcome t q columns c buffer).number
-  number = ap (λ (r : PageReply). r.number) h.0.0
-
+module _ (t q : List ℕ) (columns : ℕ) (c : Cursor) (buffer rows : List ℕ) where
   -- refused with 29, the buffer is as it was, and a page is due
-  pub either_plain : p.reply.number ≡ 29 → (r : Paged) (after : List ℕ) → PageLeaves (page_outcome t q columns c rows) r.reply r.cursor after
-      → PageLeaves (page_outcome t q columns c buffer) r.reply r.cursor after
-  either_plain e r after w =
-      let same : rows ≡ buffer = h.0.2 ∙ (quick_refused t q columns c buffer (sym number ∙ e)).2 in
-      subst (λ (b : List ℕ). PageLeaves (page_outcome t q columns c b) r.reply r.cursor after) same w
+  pub either_plain : (e : Refusal) → QuickLeaves t q columns c buffer (told_quick (Err e)) c rows → (b : Bool) → b ≡ eqb (refused e).number 29 → b ≡ true
+      → (r : PageReply) (d : Cursor) (after : List ℕ) → PageLeaves (page_outcome t q columns c rows) r d after → PageLeaves (page_outcome t q columns c buffer) r d after
+  either_plain e h b p y r d after w =
+      let number : (refused e).number ≡ (quick_outcome t q columns c buffer).number = ap (λ (r : PageReply). r.number) h.0.0 in
+      let same : rows ≡ buffer = h.0.2 ∙ (quick_refused t q columns c buffer (sym number ∙ eqb-true _ _ (sym p ∙ y))).2 in
+      subst (λ (b : List ℕ). PageLeaves (page_outcome t q columns c b) r d after) same w
 
-  pub either_quick : (p.reply.number ≡ 29 → ⊥) → (r : Paged) → r ≡ plain_of p → PageLeaves (page_outcome t q columns c buffer) r.reply r.cursor rows
-  either_quick e r pr = rw (pr, ← quick_plain t q columns c buffer (λ z. e (number ∙ z))) h.0
+  -- refused otherwise, a page is refused so as well
+  pub either_refused : (e : Refusal) → QuickLeaves t q columns c buffer (told_quick (Err e)) c rows → (b : Bool) → b ≡ eqb (refused e).number 29 → b ≡ false
+      → PageLeaves (page_outcome t q columns c buffer) (told_page (Err e)) c rows
+  either_refused e h b p y =
+      let number : (refused e).number ≡ (quick_outcome t q columns c buffer).number = ap (λ (r : PageReply). r.number) h.0.0 in
+      rw (← quick_plain t q columns c buffer (λ z. no_yes (sym p ∙ y) (eq-eqb _ _ (number ∙ z)))) h.0
+
+  pub either_quick : (p : QuickPage) → QuickLeaves t q columns c buffer (told_quick (Ok p)) p.page.cursor rows → PageLeaves (page_outcome t q columns c buffer) (told_page (Ok p.page)) p.page.cursor rows
+  either_quick p h =
+      let number : 0 ≡ (quick_outcome t q columns c buffer).number = ap (λ (r : PageReply). r.number) h.0.0 in
+      rw (← quick_plain t q columns c buffer (λ z. omega (arith, number, z))) h.0

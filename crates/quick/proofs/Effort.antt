@@ -2,7 +2,6 @@
 use Prim.Native.Nat.{ℕ, zero, suc, ◌+◌, ◌-◌, ◌<◌, ◌≤◌}
 use native.Mathlib.Omega.{arith}
 use mathlib.Core.Path.{◌≡◌, sym, ap, ap₂, ◌∙◌}
-use mathlib.Core.Bool.{true}
 use mathlib.Core.List.{List, [], ◌∷◌, ◌++◌, head-eq_of_cons-eq, tail-eq_of_cons-eq}
 use lib.ListN.{length, take, drop, get_or, set, length-take, drop_of_length-le}
 use lib.Seq.{length-take-le, take-suc-set, drop-append-le, drop-cons}
@@ -10,8 +9,8 @@ use borrow.Author.Tests.{eq-eqb, ne_eqb}
 use Rattle.model.specs.declared.Cursor.{Cursor}
 use Rattle.model.specs.Answers.{Row, less, keep}
 use Rattle.model.specs.Pages.{after}
-use Rattle.answers.specs.declared.Spot.{Spot}
-use Rattle.answers.specs.Search.{row_at, ahead}
+use Rattle.std.specs.Prelude.{Some}
+use Rattle.answers.specs.Search.{Spot, row_at, ahead}
 use Rattle.quick.specs.Search.{Same}
 use Rattle.quick.specs.Effort.{climbed, descended, stepped, sought, effort}
 
@@ -91,10 +90,10 @@ drop_at [] (suc m) x rest h = let z : ◌≡◌ {A = ℕ} 0 1 = cc in absurd (om
 drop_at (y ∷ rows) zero x rest h = (head-eq_of_cons-eq h, tail-eq_of_cons-eq h)
 drop_at (y ∷ rows) (suc m) x rest h = drop_at rows m x rest h
 
-pub effort_more : (n k : ℕ) (c : Cursor) (L : List Row) (at : Spot) (m e f : ℕ) → e ≡ effort n k c (after k L c) m → f ≡ sought n (row_at k at) (keep (less (row_at k at)) L)
-    → ahead k L at ≡ drop m (after k L c) → at.there ≡ true → e + f ≡ effort n k c (after k L c) (m + 1)
-effort_more n k c L at m e f p q h there =
-    let w : (row_at k at ∷ keep (less (row_at k at)) L) ≡ drop m (after k L c) = rw there at h in
-    let d = drop_at (after k L c) m (row_at k at) (keep (less (row_at k at)) L) (sym w) in
+pub effort_more : (n k : ℕ) (c : Cursor) (L : List Row) (at : Spot) (row : List ℕ) (m e f : ℕ) → e ≡ effort n k c (after k L c) m → f ≡ sought n (row_at k row) (keep (less (row_at k row)) L)
+    → ahead k L at ≡ drop m (after k L c) → at ≡ Some row → e + f ≡ effort n k c (after k L c) (m + 1)
+effort_more n k c L at row m e f p q h there =
+    let w : (row_at k row ∷ keep (less (row_at k row)) L) ≡ drop m (after k L c) = rw there at h in
+    let d = drop_at (after k L c) m (row_at k row) (keep (less (row_at k row)) L) (sym w) in
     let z : m + 1 ≡ suc m = omega arith in
     rw (z, d.0, d.1) (ap₂ (λ (x y : ℕ). x + y) p q)

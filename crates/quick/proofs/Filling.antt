@@ -3,14 +3,12 @@ use Prim.Native.Nat.{ℕ, ◌+◌, ◌-◌, ◌*◌, ◌<◌, ◌≤◌}
 use native.Mathlib.Omega.{arith}
 use mathlib.Core.Path.{◌≡◌, refl, sym, ◌∙◌, subst}
 use mathlib.Core.Logic.{⊎_elim}
-use mathlib.Core.Bool.{true}
 use mathlib.Core.List.{List}
 use lib.ListN.{length, take, drop, get_or, set, length-set}
 use lib.Seq.{get_or-take, ext_get_or}
 use Rattle.model.specs.Tree.{size_of}
 use Rattle.model.specs.Answers.{Row}
-use Rattle.answers.specs.declared.Spot.{Spot}
-use Rattle.quick.specs.declared.Found.{Found}
+use Rattle.std.specs.Prelude.{Some}
 use Rattle.quick.specs.Effort.{descended}
 use Rattle.quick.specs.Search.{Ready, Answer, Nodes, Same, Before, goes_on, Lowest, Tries, Begins, First, FirstFrom}
 use Rattle.quick.proofs.Rows.{before_step}
@@ -73,11 +71,9 @@ module _ {t prev q : List ℕ} {k : ℕ} (ok : Ready t prev q k) (i : ℕ) (row 
             let e : get_or (set at j v) j 0 ≡ v = set_at at j v j f.long (omega (arith, few ok)) refl in
             omega arith
 
-  pub filling_done : (at : List ℕ) (j : ℕ) → Filling t q k i row at j → k ≤ j → (s : Spot) → s ≡ record { there = true; row = at } → First t q k i row s
-  filling_done at j f h s e =
-      rw e
+  pub filling_done : (at : List ℕ) (j : ℕ) → Filling t q k i row at j → k ≤ j → First t q k i row at
+  filling_done at j f h =
       (record {
-        there = refl;
         answer = subst (λ (r : Row). Answer t q k r) whole f.begins.answer;
         same = f.same;
         first = λ x a u b. f.first x a u (subst (λ (m : ℕ). Before m x at) (let d : k ≡ j = omega (arith, f.within) in d) b);
@@ -114,7 +110,5 @@ module _ {t prev q : List ℕ} {k : ℕ} (ok : Ready t prev q k) (i spent : ℕ)
           exact = filled_more i j e spent at f.exact v e₁ f.filling.low (omega (arith, f.filling.long, few ok)) (tried.0 (filling_node ok i row at j f.filling l v w));
         }
 
-    pub filled_whole : k ≤ j → (r : Found) → r ≡ record { spot = record { there = true; row = at }; evaluations = e }
-        → FirstFrom t q k i row spent r
-    filled_whole l r p =
-        rw p (filling_done ok i row at j f.filling l (record { there = true; row = at }) refl, (filled_few, filled_done i j e spent at f.exact k f.filling.within l))
+    pub filled_whole : k ≤ j → FirstFrom t q k i row spent (record { spot = Some at; evaluations = e })
+    filled_whole l = (filling_done ok i row at j f.filling l, (filled_few, filled_done i j e spent at f.exact k f.filling.within l))

@@ -14,10 +14,11 @@ use Rattle.model.specs.Answers.{Row, less, keep, answers}
 use Rattle.model.specs.Accepted.{Below}
 use Rattle.model.proofs.Booleans.{no_yes, not_yes}
 use Rattle.model.proofs.Answers.{In, answers_rising, answers_member, satisfied_pair}
-use Rattle.answers.specs.declared.Spot.{Spot}
+use Rattle.std.specs.Prelude.{Option, Some, None}
 use Rattle.engines.specs.Engines.{Searchable}
 use Rattle.answers.specs.Search.{row_at, ahead}
-use Rattle.quick.specs.Search.{Ready, Answer, Nodes, Same, Before, goes_on, some_answer, Lowest, Begins, First}
+use Rattle.quick.specs.declared.Tried.{Tried}
+use Rattle.quick.specs.Search.{Ready, Answer, Nodes, Same, Before, goes_on, some_answer, Lowest, Tries, number_of, Seeks, Begins, First}
 use Rattle.quick.proofs.Rows.{less_before, before_less, before_step, none_kept, first_kept, next_kept}
 use Rattle.answers.proofs.Opened.{long}
 use Rattle.quick.proofs.Opened.{few, found, hit}
@@ -92,8 +93,21 @@ module _ (f : ℕ → Bool) (from n : ℕ) where
   pub trying_hit : (v : ℕ) (b : Bool) → Trying v → b ≡ f v → b ≡ true → Lowest f from n v
   trying_hit v b w e h = record { low = w.0; within = w.1; least = w.2; holds = λ l. sym e ∙ h }
 
-  pub trying_end : (v : ℕ) → Trying v → n ≤ v → Lowest f from n v
-  trying_end v w l = record { low = w.0; within = w.1; least = w.2; holds = λ m. absurd (omega arith) }
+  pub trying_end : (v : ℕ) → Trying v → n ≤ v → Lowest f from n n
+  trying_end v w l = record { low = omega (arith, w.0, w.1); within = omega arith; least = λ u a b. w.2 u a (omega arith); holds = λ m. absurd (omega arith) }
+
+-- a number that was found, or not
+
+pub number_found : (n : ℕ) (o : Option ℕ) → number_of n o < n → o ≡ Some (number_of n o)
+number_found n None l = absurd (omega arith)
+number_found n (Some v) l = refl
+
+module _ (f : ℕ → Bool) (from n spent : ℕ) (r : Tried) (w : Seeks f from n spent r) where
+  pub seeks_some : (v : ℕ) → r.number ≡ Some v → (v < n) × (Lowest f from n v × ((r.evaluations ≤ spent + n) × Tries from n v spent r.evaluations))
+  seeks_some v is = rw is at w
+
+  pub seeks_none : r.number ≡ None → Lowest f from n n × ((r.evaluations ≤ spent + n) × Tries from n n spent r.evaluations)
+  seeks_none is = let d : Unit × (Lowest f from n n × ((r.evaluations ≤ spent + n) × Tries from n n spent r.evaluations)) = rw is at w in d.1
 
 -- The loop that seeks a higher number, from the last variable to the first.
 
@@ -111,21 +125,20 @@ module _ {t prev q : List ℕ} {k : ℕ} (ok : Ready t prev q k) where
   unlisted x i = let m = (answers_member t q k x).0 i in (m.0, m.1, (satisfied_pair t q k x).1 m.2)
 
   -- the answers from the first of them on
-  pub first_ahead : (row : List ℕ) (s : Spot) → First t q k 0 row s → ahead k (answers t q k) s ≡ answers t q k
+  pub first_ahead : (row s : List ℕ) → First t q k 0 row s → ahead k (answers t q k) (Some s) ≡ answers t q k
   first_ahead row s f =
-      rw f.there
       (sym (first_kept (answers t q k) (row_at k s) (answers_rising t q k) (listed (row_at k s) f.answer)
       (λ x i. not_yes (less x (row_at k s)) (λ h. f.first x (unlisted x i) (λ j l. absurd (omega arith)) (front x (unlisted x i) h)))))
     where
-      front : (x : Row) → Answer t q k x → less x (row_at k s) ≡ true → Before k x s.row
+      front : (x : Row) → Answer t q k x → less x (row_at k s) ≡ true → Before k x s
       front x a h =
           let (c, l, u, g) = less_before k x (row_at k s) a.0 f.answer.0 h in
-          (c, l, λ j m. u j m ∙ get_or-take k s.row j 0 (omega arith), (rw (get_or-take k s.row c 0 l) at g))
+          (c, l, λ j m. u j m ∙ get_or-take k s j 0 (omega arith), (rw (get_or-take k s c 0 l) at g))
 
   -- where the query has no pair with all variables standing for any node, there is no answer
-  pub none_ahead : (b : Bool) → b ≡ some_answer t q k → b ≡ false → (s : Spot) → s.there ≡ false → ahead k (answers t q k) s ≡ answers t q k
-  none_ahead b p h s g =
-      rw g (sym (empty (answers t q k) (λ x i. no_yes (sym p ∙ h) (found ok (0 ∷ 0 ∷ 0 ∷ []) refl 0 x (unlisted x i) (λ j l. absurd (omega arith))))))
+  pub none_ahead : (b : Bool) → b ≡ some_answer t q k → b ≡ false → [] ≡ answers t q k
+  none_ahead b p h =
+      (sym (empty (answers t q k) (λ x i. no_yes (sym p ∙ h) (found ok (0 ∷ 0 ∷ 0 ∷ []) refl 0 x (unlisted x i) (λ j l. absurd (omega arith))))))
     where
       empty : (L : List Row) → ((x : Row) → In x L → ⊥) → L ≡ []
       empty [] f = refl
@@ -184,16 +197,16 @@ module _ {t prev q : List ℕ} {k : ℕ} (ok : Ready t prev q k) where
           pub climbing_nodes : Nodes (size_of t) k (set row i v)
           climbing_nodes = set_nodes (size_of t) k row i v (few ok) three within nodes h
 
-        module _ (s : Spot) (f : First t q k (i + 1) (set row i v) s) where
+        module _ (s : List ℕ) (f : First t q k (i + 1) (set row i v) s) where
           -- the numbers of the row that is found
-          same : (j : ℕ) → j < i → get_or s.row j 0 ≡ get_or row j 0
+          same : (j : ℕ) → j < i → get_or s j 0 ≡ get_or row j 0
           same j l = f.same j (omega arith) ∙ set_off row i v j (λ e. omega arith)
 
-          higher : get_or s.row i 0 ≡ v
+          higher : get_or s i 0 ≡ v
           higher = f.same i (omega arith) ∙ set_at row i v i three (omega (arith, within, few ok)) refl
 
-          at_row : (j : ℕ) → j < k → get_or (row_at k s) j 0 ≡ get_or s.row j 0
-          at_row j l = get_or-take k s.row j 0 l
+          at_row : (j : ℕ) → j < k → get_or (row_at k s) j 0 ≡ get_or s j 0
+          at_row j l = get_or-take k s j 0 l
 
           -- it agrees with the row up to the variable that is counted up
           pub found_same : Same i (take k row) (row_at k s)
@@ -208,7 +221,7 @@ module _ {t prev q : List ℕ} {k : ℕ} (ok : Ready t prev q k) where
               (i, within, found_same, omega (arith, number i within, at_row i within, higher, w.low))
 
           -- no answer stands between
-          between : (x : Row) → Answer t q k x → Before k row x → Before k x s.row → ⊥
+          between : (x : Row) → Answer t q k x → Before k row x → Before k x s → ⊥
           between x a b (d, ld, ud, gd) = ⊎_elim early level (next x a b)
             where
               early : Before i row x → ⊥
@@ -220,7 +233,7 @@ module _ {t prev q : List ℕ} {k : ℕ} (ok : Ready t prev q k) where
                     where
                       go₂ : Dec (e < d) → ⊥
                       go₂ (yes m₂) = omega (arith, ud e m₂, same e le)
-                      go₂ (no m₂) = let z : d ≡ e = omega arith in let g : get_or x e 0 < get_or s.row e 0 = rw z at gd in omega (arith, same e le)
+                      go₂ (no m₂) = let z : d ≡ e = omega arith in let g : get_or x e 0 < get_or s e 0 = rw z at gd in omega (arith, same e le)
 
               level : Same i row x × (get_or row i 0 < get_or x i 0) → ⊥
               level (u, g) = go (dec_lt d i)
@@ -234,23 +247,21 @@ module _ {t prev q : List ℕ} {k : ℕ} (ok : Ready t prev q k) where
                     where
                       go₂ : Dec (i < d) → ⊥
                       go₂ (yes m₂) = f.first x a (λ j l. ud j (omega arith) ∙ f.same j l) (d, ld, ud, gd)
-                      go₂ (no m₂) = let z : d ≡ i = omega arith in let g₂ : get_or x i 0 < get_or s.row i 0 = rw z at gd in omega (arith, higher, v_low)
+                      go₂ (no m₂) = let z : d ≡ i = omega arith in let g₂ : get_or x i 0 < get_or s i 0 = rw z at gd in omega (arith, higher, v_low)
 
-          pub climbing_found : ahead k (answers t q k) s ≡ keep (less (take k row)) (answers t q k)
+          pub climbing_found : ahead k (answers t q k) (Some s) ≡ keep (less (take k row)) (answers t q k)
           climbing_found =
-              rw f.there
               (sym (next_kept (take k row) (row_at k s) later (answers t q k) (answers_rising t q k) (listed (row_at k s) f.answer)
               (λ x i g. not_yes (less x (row_at k s)) (λ y. between x (unlisted x i) (onto x (unlisted x i) g) (from x (unlisted x i) y)))))
             where
-              from : (x : Row) → Answer t q k x → less x (row_at k s) ≡ true → Before k x s.row
+              from : (x : Row) → Answer t q k x → less x (row_at k s) ≡ true → Before k x s
               from x a g =
                   let (d, l, u, y) = less_before k x (row_at k s) a.0 f.answer.0 g in
                   (d, l, λ j m. u j m ∙ at_row j (omega arith), (rw (at_row d l) at y))
 
     -- no variable has a higher number that goes on
-    pub climbing_done : (i : ℕ) → Climbing t q k row i → i ≤ 0 → (s : Spot) → s.there ≡ false → ahead k (answers t q k) s ≡ keep (less (take k row)) (answers t q k)
-    climbing_done i c h s g =
-        rw g
+    pub climbing_done : (i : ℕ) → Climbing t q k row i → i ≤ 0 → [] ≡ keep (less (take k row)) (answers t q k)
+    climbing_done i c h =
         (sym (none_kept (less (take k row)) (answers t q k)
         (λ x m. not_yes (less (take k row) x) (λ y. omega (arith, (c.beyond x (unlisted x m) (onto x (unlisted x m) y)).1)))))
 

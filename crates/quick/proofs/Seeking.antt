@@ -10,7 +10,7 @@ use Rattle.model.specs.Tree.{size_of}
 use Rattle.model.specs.declared.Cursor.{Cursor}
 use Rattle.model.specs.Answers.{less, keep, answers}
 use Rattle.model.specs.Pages.{has_begun}
-use Rattle.answers.specs.declared.Spot.{Spot}
+use Rattle.std.specs.Prelude.{Option, Some, None}
 use Rattle.answers.specs.Search.{row_at, ahead}
 use Rattle.quick.specs.declared.Found.{Found}
 use Rattle.quick.specs.Effort.{climbed, sought_first}
@@ -62,23 +62,25 @@ module _ {t prev q : List ℕ} {k : ℕ} (ok : Ready t prev q k) (row : List ℕ
         seeking_nodes = climbing_nodes ok row three (i - 1) m down here v w nodes h
 
         pub seeking_found : (r : Found) → FirstFrom t q k (i - 1 + 1) (set row (i - 1) v) e₁ r → Sought t q k row r
-        seeking_found r (f, (l, d)) =
-            let s : Spot = r.spot in
-            let a : ahead k (answers t q k) s ≡ keep (less (take k row)) (answers t q k) = climbing_found ok row three (i - 1) m down here v w s f in
-            let b : (row_at k s ∷ keep (less (row_at k s)) (answers t q k)) ≡ keep (less (take k row)) (answers t q k) = rw f.there at a in (
-              a,
-              (
-                omega (arith, now.most, levels_down k i (size_of t) p now.climbing.within, levels_few (i - 1) k (size_of t) (few ok)),
-                sought_found (size_of t) r.evaluations (take k row) (row_at k s) (keep (less (row_at k s)) (answers t q k)) (keep (less (take k row)) (answers t q k))
-                    (climbed_found (size_of t) i m e (take k row) now.spent p (omega (arith, long ok.listed row three, now.climbing.within)) reads v e₁ r.evaluations (row_at k s) (omega (arith, w.low)) (tried.0 h) d
-                    (f.answer.0 ∙ sym (long ok.listed row three)) (found_same ok row three (i - 1) m down here v w s f) (found_higher ok row three (i - 1) m down here v w s f)) b,
-              ),
-            )
+        seeking_found r = go r.spot
+          where
+            go : (o : Option (List ℕ)) → FirstFrom t q k (i - 1 + 1) (set row (i - 1) v) e₁ (record { spot = o; evaluations = r.evaluations }) → Sought t q k row (record { spot = o; evaluations = r.evaluations })
+            go None h = absurd h
+            go (Some s) (f, (l, d)) =
+                let a : ahead k (answers t q k) (Some s) ≡ keep (less (take k row)) (answers t q k) = climbing_found ok row three (i - 1) m down here v w s f in (
+                  a,
+                  (
+                    omega (arith, now.most, levels_down k i (size_of t) p now.climbing.within, levels_few (i - 1) k (size_of t) (few ok)),
+                    sought_found (size_of t) r.evaluations (take k row) (row_at k s) (keep (less (row_at k s)) (answers t q k)) (keep (less (take k row)) (answers t q k))
+                        (climbed_found (size_of t) i m e (take k row) now.spent p (omega (arith, long ok.listed row three, now.climbing.within)) reads v e₁ r.evaluations (row_at k s) (omega (arith, w.low)) (tried.0 h) d
+                        (f.answer.0 ∙ sym (long ok.listed row three)) (found_same ok row three (i - 1) m down here v w s f) (found_higher ok row three (i - 1) m down here v w s f)) a,
+                  ),
+                )
 
   -- all variables are done
-  pub seeking_none : (i e : ℕ) → Seeking t q k row i e → i ≤ 0 → (f : Found) → f ≡ no_answer row e → Sought t q k row f
+  pub seeking_none : (i e : ℕ) → Seeking t q k row i e → i ≤ 0 → (f : Found) → f ≡ no_answer e → Sought t q k row f
   seeking_none i e now l f p =
-      let a : [] ≡ keep (less (take k row)) (answers t q k) = climbing_done ok row three i now.climbing l (no_answer row e).spot refl in
+      let a : [] ≡ keep (less (take k row)) (answers t q k) = climbing_done ok row three i now.climbing l in
       rw p (a, (omega (arith, now.most, levels_few i k (size_of t) (few ok)), sought_none (size_of t) e i (take k row) (keep (less (take k row)) (answers t q k)) now.spent l a))
 
 -- The first answer after a cursor.
@@ -89,13 +91,15 @@ module _ {t prev q : List ℕ} {k : ℕ} (ok : Ready t prev q k) (c : Cursor) wh
 
   module _ (fresh : has_begun c ≡ false) where
     pub first_filled : (r : Found) → FirstFrom t q k 0 (0 ∷ 0 ∷ 0 ∷ []) 1 r → SoughtAfter t q k c r
-    first_filled r (f, (l, d)) =
-        let s : Spot = r.spot in
-        let a : ahead k (answers t q k) s ≡ answers t q k = first_ahead ok (0 ∷ 0 ∷ 0 ∷ []) s f in
-        let b : (row_at k s ∷ keep (less (row_at k s)) (answers t q k)) ≡ answers t q k = rw f.there at a in
-        rw fresh (a, (omega (arith, ok.listed.searchable.linked.tree.sound.some_node), d ∙ ap sought_first b))
+    first_filled r = go r.spot
+      where
+        go : (o : Option (List ℕ)) → FirstFrom t q k 0 (0 ∷ 0 ∷ 0 ∷ []) 1 (record { spot = o; evaluations = r.evaluations }) → SoughtAfter t q k c (record { spot = o; evaluations = r.evaluations })
+        go None h = absurd h
+        go (Some s) (f, (l, d)) =
+            let a : ahead k (answers t q k) (Some s) ≡ answers t q k = first_ahead ok (0 ∷ 0 ∷ 0 ∷ []) s f in
+            rw fresh (a, (omega (arith, ok.listed.searchable.linked.tree.sound.some_node), d ∙ ap sought_first a))
 
-    pub first_none : (b : Bool) → b ≡ some_answer t q k → b ≡ false → (f : Found) → f ≡ no_answer (0 ∷ 0 ∷ 0 ∷ []) 1 → SoughtAfter t q k c f
+    pub first_none : (b : Bool) → b ≡ some_answer t q k → b ≡ false → (f : Found) → f ≡ no_answer 1 → SoughtAfter t q k c f
     first_none b p h f e =
-        let a : [] ≡ answers t q k = none_ahead ok b p h (no_answer (0 ∷ 0 ∷ 0 ∷ []) 1).spot refl in
+        let a : [] ≡ answers t q k = none_ahead ok b p h in
         rw (e, fresh) (a, (omega (arith, ok.listed.searchable.linked.tree.sound.some_node), ap sought_first a))

@@ -14,15 +14,13 @@ use Rattle.model.specs.Pages.{after, at_row, paged}
 use Rattle.model.specs.Accepted.{Below}
 use Rattle.model.specs.Services.{PageLeaves}
 use Rattle.model.proofs.Answers.{answers_wide, answers_member}
-use Rattle.answers.specs.declared.Spot.{Spot}
-use Rattle.answers.specs.declared.Paged.{Paged}
-use Rattle.answers.specs.Search.{row_at, page_of}
+use Rattle.std.specs.Prelude.{Some, None}
+use Rattle.answers.specs.Search.{Spot, row_at}
 use Rattle.answers.proofs.Writing.{Going, going_start, going_in, going_turn, page_full, page_out}
 use Rattle.quick.specs.declared.Found.{Found}
-use Rattle.quick.specs.declared.Quick.{Quick}
 use Rattle.quick.specs.Effort.{effort}
 use Rattle.quick.specs.Search.{Ready, Sought, SoughtAfter}
-use Rattle.quick.specs.Service.{PageWritten, counted_of}
+use Rattle.quick.specs.Service.{PageWritten}
 use Rattle.quick.proofs.Opened.{few}
 use Rattle.quick.proofs.Effort.{effort_more}
 use Rattle.quick.proofs.Count.{answers_few}
@@ -39,8 +37,8 @@ written_start t q k c first r w =
 
 module _ {t q : List ℕ} {k : ℕ} {c : Cursor} {first : List ℕ} {at : Spot} {e : ℕ} {last : Cursor} {count : ℕ} {rows : List ℕ} (g : Written t q k c first at e last count rows) where
   -- the row that was found is one of nodes
-  pub written_below : at.there ≡ true → Below (size_of t) (row_at k at)
-  written_below there = ((answers_member t q k (row_at k at)).0 (going_in g.going there)).1
+  pub written_below : (row : List ℕ) → at ≡ Some row → Below (size_of t) (row_at k row)
+  written_below row there = ((answers_member t q k (row_at k row)).0 (going_in g.going row there)).1
 
   -- the number of evaluations fits: no more rows are written than there are
   pub written_fits : (prev : List ℕ) → Ready t prev q k → (f : ℕ) → f ≤ 6 * size_of t → e + f < 18446744073709551616
@@ -51,23 +49,21 @@ module _ {t q : List ℕ} {k : ℕ} {c : Cursor} {first : List ℕ} {at : Spot} 
       omega (arith, g.most)
 
   -- one row more
-  pub written_turn : at.there ≡ true → (count ≡ length first / k → ⊥) → (rows₁ : List ℕ) → rows₁ ≡ paste rows (count * k) at.row k
-      → (last₁ : Cursor) → last₁ ≡ at_row last (row_at k at) → (r : Found) → Sought t q k at.row r
+  pub written_turn : (row : List ℕ) → at ≡ Some row → (count ≡ length first / k → ⊥) → (rows₁ : List ℕ) → rows₁ ≡ paste rows (count * k) row k
+      → (last₁ : Cursor) → last₁ ≡ at_row last (row_at k row) → (r : Found) → Sought t q k row r
       → Written t q k c first r.spot (e + r.evaluations) last₁ (count + 1) rows₁
-  written_turn there ne rows₁ er last₁ el r w =
+  written_turn row there ne rows₁ er last₁ el r w =
       record {
-        going = going_turn g.going there ne rows₁ er last₁ el r.spot w.0;
+        going = going_turn g.going row there ne rows₁ er last₁ el r.spot w.0;
         most = let z : count + 1 + 1 ≡ suc (count + 1) = omega arith in rw (z, mul-suc (6 * size_of t) (count + 1)) (omega (arith, g.most, w.1.0));
-        exact = effort_more (size_of t) k c (answers t q k) at count e r.evaluations g.exact w.1.1 g.going.left there;
+        exact = effort_more (size_of t) k c (answers t q k) at row count e r.evaluations g.exact w.1.1 g.going.left there;
       }
 
-  counted : (more : Bool) (p : Paged) (r : Quick) → r ≡ counted_of p e → p ≡ page_of count more last → PageLeaves (paged k (answers t q k) c first) p.reply p.cursor rows → PageWritten t q k c first r rows
-  counted more p r pr pp h = rw pr (h, (rw pp g.most, rw pp g.exact))
-
   -- the buffer is full, and a row is left
-  pub written_full : (p : Paged) (r : Quick) → r ≡ counted_of p e → p ≡ page_of count true last → at.there ≡ true → count ≡ length first / k → PageWritten t q k c first r rows
-  written_full p r pr pp there f = counted true p r pr pp (page_full g.going p pp there f)
+  pub written_full : (row : List ℕ) → at ≡ Some row → count ≡ length first / k
+      → PageWritten t q k c first (record { page = record { count = length first / k; more = true; cursor = last }; evaluations = e }) rows
+  written_full row there f = (page_full g.going row there f, (rw (← f) g.most, rw (← f) g.exact))
 
   -- no row is left
-  pub written_out : (p : Paged) (r : Quick) → r ≡ counted_of p e → p ≡ page_of count false last → at.there ≡ false → PageWritten t q k c first r rows
-  written_out p r pr pp gone = counted false p r pr pp (page_out g.going p pp gone)
+  pub written_out : at ≡ None → PageWritten t q k c first (record { page = record { count = count; more = false; cursor = last }; evaluations = e }) rows
+  written_out gone = (page_out g.going gone, (g.most, g.exact))

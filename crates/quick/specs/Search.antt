@@ -1,5 +1,5 @@
 -- How the next answer is found variable by variable: what the inner functions ask for and give.
-use Rattle.std.specs.Prelude.{ℕ, suc, ◌+◌, ◌*◌, ◌≤◌, ◌<◌, ◌≡◌, Bool, true, false, List, [], ◌∷◌, length, take, drop, get_or, set}
+use Rattle.std.specs.Prelude.{ℕ, suc, ◌+◌, ◌*◌, ◌≤◌, ◌<◌, ◌≡◌, Bool, true, false, List, [], ◌∷◌, length, take, drop, get_or, set, Option, Some, None, MatchOption}
 use Rattle.model.specs.declared.Cursor.{Cursor}
 use Rattle.model.specs.Tree.{size_of}
 use Rattle.model.specs.QueryTable.{path_at, last_of}
@@ -7,7 +7,7 @@ use Rattle.model.specs.Answers.{Row, less, keep, satisfied, answers}
 use Rattle.model.specs.Pages.{after}
 use Rattle.model.specs.Accepted.{Below}
 use Rattle.model.specs.Sharing.{Unshared}
-use Rattle.answers.specs.declared.Spot.{Spot}
+use Rattle.narrowing.specs.declared.Search.{Search}
 use Rattle.answers.specs.Search.{row_at, ahead, Listed, satisfied_open}
 use Rattle.quick.specs.declared.Tried.{Tried}
 use Rattle.quick.specs.declared.Found.{Found}
@@ -17,6 +17,10 @@ use Rattle.quick.specs.Effort.{descended, sought, sought_after}
 pub record Ready (t prev q : List ℕ) (k : ℕ) : Type 0 where
   pub listed : Listed t prev q k
   pub rule : Unshared (path_at q (last_of q))
+
+-- the same of a search
+abbrev pub ReadyFor : Search → Type 0
+ReadyFor s = Ready s.tree.now s.prev.now s.query.now s.k
 
 -- x is an answer: it has one node for each variable, and the query has a pair under it
 abbrev pub Answer : List ℕ → List ℕ → ℕ → Row → Type 0
@@ -63,10 +67,21 @@ pub record Lowest (f : ℕ → Bool) (from n v : ℕ) : Type 0 where
 abbrev pub Tries : ℕ → ℕ → ℕ → ℕ → ℕ → Type 0
 Tries from n v before evaluations = (v < n → evaluations + from ≡ before + suc v) × (n ≤ v → evaluations + from ≡ before + n)
 
+-- the number that was found, or n where none was
+abbrev pub number_of : ℕ → Option ℕ → ℕ
+number_of n None = n
+number_of n (Some v) = v
+
+-- a number that was found is below n
+abbrev pub IsBelow : ℕ → Option ℕ → Type 0
+IsBelow n None = Unit
+IsBelow n (Some v) = v < n
+
 -- what is asked of a number that is sought from one on among those below n, by a test f, after so many evaluations
 abbrev pub Seeks : (ℕ → Bool) → ℕ → ℕ → ℕ → Tried → Type 0
 Seeks f from n spent r =
-    Lowest f from n r.number × ((r.evaluations ≤ spent + n) × Tries from n r.number spent r.evaluations)
+    IsBelow n r.number
+    × (Lowest f from n (number_of n r.number) × ((r.evaluations ≤ spent + n) × Tries from n (number_of n r.number) spent r.evaluations))
 
 -- some answer begins as the first i numbers of the row
 pub record Begins (t q : List ℕ) (k i : ℕ) (row : List ℕ) : Type 0 where
@@ -74,18 +89,17 @@ pub record Begins (t q : List ℕ) (k i : ℕ) (row : List ℕ) : Type 0 where
   pub answer : Answer t q k one
   pub same : Same i one row
 
--- the spot is at the first of the answers that begin as the first i numbers of the row
-pub record First (t q : List ℕ) (k i : ℕ) (row : List ℕ) (s : Spot) : Type 0 where
-  pub there : s.there ≡ true
+-- the row s is the first of the answers that begin as the first i numbers of the row
+pub record First (t q : List ℕ) (k i : ℕ) (row s : List ℕ) : Type 0 where
   pub answer : Answer t q k (row_at k s)
-  pub same : Same i s.row row
-  pub first : (x : Row) → Answer t q k x → Same i x row → Before k x s.row → ⊥
+  pub same : Same i s row
+  pub first : (x : Row) → Answer t q k x → Same i x row → Before k x s → ⊥
 
--- what is asked of the first answer that begins as the first i numbers of the row, after so many evaluations
+-- what is asked of the first answer that begins as the first i numbers of the row, after so many evaluations: there is one
 abbrev pub FirstFrom : List ℕ → List ℕ → ℕ → ℕ → List ℕ → ℕ → Found → Type 0
 FirstFrom t q k i row spent r =
-    First t q k i row r.spot
-    × ((r.evaluations ≤ spent + 3 * size_of t) × (r.evaluations ≡ spent + descended (drop i (row_at k r.spot))))
+    MatchOption r.spot ⊥
+    (λ s. First t q k i row s × ((r.evaluations ≤ spent + 3 * size_of t) × (r.evaluations ≡ spent + descended (drop i (row_at k s)))))
 
 -- what is asked of the first answer after a row
 abbrev pub Sought : List ℕ → List ℕ → ℕ → List ℕ → Found → Type 0
@@ -100,6 +114,6 @@ SoughtAfter t q k c r =
     (ahead k (answers t q k) r.spot ≡ after k (answers t q k) c)
     × ((r.evaluations ≤ 6 * size_of t) × (r.evaluations ≡ sought_after (size_of t) k c (after k (answers t q k) c)))
 
--- the result of a search that finds no answer: past the last row
-abbrev pub no_answer : List ℕ → ℕ → Found
-no_answer row evaluations = record { spot = record { there = false; row = row }; evaluations = evaluations }
+-- the result of a search that finds no answer
+abbrev pub no_answer : ℕ → Found
+no_answer evaluations = record { spot = None; evaluations = evaluations }

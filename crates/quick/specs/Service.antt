@@ -1,5 +1,5 @@
 -- What a quick page call leaves, whatever it is lent (document 02, §7).
-use Rattle.std.specs.Prelude.{ℕ, ◌+◌, ◌*◌, ◌≤◌, ◌≡◌, cond, List, eqb}
+use Rattle.std.specs.Prelude.{ℕ, ◌+◌, ◌*◌, ◌≤◌, ◌≡◌, cond, List, eqb, Ok}
 use Rattle.model.specs.declared.Cursor.{Cursor}
 use Rattle.model.specs.declared.PageReply.{PageReply}
 use Rattle.model.specs.declared.QuickReply.{QuickReply}
@@ -7,8 +7,9 @@ use Rattle.model.specs.Tree.{size_of}
 use Rattle.model.specs.Answers.{answers}
 use Rattle.model.specs.Pages.{after, paged}
 use Rattle.model.specs.Services.{quick_outcome, PageLeaves}
-use Rattle.answers.specs.declared.Paged.{Paged}
-use Rattle.quick.specs.declared.Quick.{Quick}
+use Rattle.model.specs.declared.QuickPage.{QuickPage}
+use Rattle.model.specs.Refusals.{told_quick}
+use Rattle.answers.specs.Search.{Paged}
 use Rattle.quick.specs.Effort.{effort}
 
 -- the reply but for the evaluations: that of a page call
@@ -31,13 +32,18 @@ QuickLeaves t q columns c buffer r cursor rows =
     × ((r.evaluations ≡ quick_effort t q columns c buffer) × (r.evaluations ≤ 6 * size_of t * (r.count + 1)))
 
 -- what is asked of the function that writes the page of an accepted call
-abbrev pub PageWritten : List ℕ → List ℕ → ℕ → Cursor → List ℕ → Quick → List ℕ → Type 0
+abbrev pub PageWritten : List ℕ → List ℕ → ℕ → Cursor → List ℕ → QuickPage → List ℕ → Type 0
 PageWritten t q k c buffer r rows =
-    PageLeaves (paged k (answers t q k) c buffer) (plain_reply r.reply) r.cursor rows
-    × ((r.reply.evaluations ≤ 6 * size_of t * (r.reply.count + 1))
-    × (r.reply.evaluations ≡ effort (size_of t) k c (after k (answers t q k) c) r.reply.count))
+    PageLeaves (paged k (answers t q k) c buffer) (plain_reply (told_quick (Ok r))) r.page.cursor rows
+    × ((r.evaluations ≤ 6 * size_of t * (r.page.count + 1))
+    × (r.evaluations ≡ effort (size_of t) k c (after k (answers t q k) c) r.page.count))
 
 -- The results of the by-value functions.
+
+-- the reply to a quick page call, and the cursor after it
+pub record Quick : Type 0 where
+  pub reply : QuickReply
+  pub cursor : Cursor
 
 -- a page with the evaluations that it took
 abbrev pub counted_of : Paged → ℕ → Quick

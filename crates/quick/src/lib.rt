@@ -1,300 +1,216 @@
 // The answers of a query that keeps the rule of source document 004, page by page (document 02, §7). An answer is found variable by
 // variable: with the later variables standing for any node, one evaluation tells whether some answer begins so. At most 6 × n
-// evaluations for each row written, and as many to tell whether there is one more. `whole` says by which engine: it is decided once a
-// call, since an opened query nests as the query does.
+// evaluations for each row written, and as many to tell whether there is one more. By which engine is decided once a call, since an
+// opened query nests as the query does.
 #![tactic(auto)]
 
-ghost use Rattle.std.specs.Prelude.{◌≡◌, true, ◌≤◌, ◌<◌, take};
+ghost use Rattle.std.specs.Prelude.{◌≡◌, true, ◌≤◌, ◌<◌, take, eqb};
 ghost use Rattle.model.specs.Tree.{size_of};
 ghost use Rattle.model.specs.Pages.{row_of, has_begun};
-ghost use Rattle.model.specs.Refusals.{verdict};
+ghost use Rattle.model.specs.Refusals.{refused, told, told_page, told_quick, cursor_after, cursor_after_quick, verdict};
 ghost use Rattle.model.specs.Checks.{quick_checks};
 ghost use Rattle.model.specs.Accepted.{AcceptedTree, Below};
 ghost use Rattle.model.specs.Services.{page_outcome, PageLeaves};
-ghost use Rattle.engines.specs.Engines.{Searchable};
-ghost use Rattle.answers.specs.Search.{refused_page};
-ghost use Rattle.quick.specs.Search.{Ready, Nodes, passes, goes_on, some_answer, Seeks, Begins, FirstFrom, Sought, SoughtAfter, no_answer};
-ghost use Rattle.quick.specs.Service.{PageWritten, counted_of, plain_of, QuickLeaves};
+ghost use Rattle.narrowing.specs.Narrowing.{Searches};
+ghost use Rattle.quick.specs.Search.{ReadyFor, Nodes, passes, goes_on, some_answer, Seeks, Begins, FirstFrom, Sought, SoughtAfter, no_answer};
+ghost use Rattle.quick.specs.Service.{PageWritten, QuickLeaves};
 
-// A number that was tried for a variable, and the evaluations made so far.
+use model::Refusal;
+use narrowing::Search;
+
+// The number that was found for a variable, if there is one, and the evaluations made so far.
 #[derive(Drop)]
 struct Tried {
-    number: usize,
+    number: Option<usize>,
     evaluations: usize,
 }
 
-// Where an answer was found, and the evaluations made so far.
+// The answer that was found, if there is one, and the evaluations made so far.
 #[derive(Drop)]
 struct Found {
-    spot: answers::Spot,
+    spot: Option<[u16; 3]>,
     evaluations: usize,
-}
-
-// The reply to a quick page call, and the cursor after it.
-#[derive(Drop)]
-pub struct Quick {
-    pub reply: model::QuickReply,
-    pub cursor: model::Cursor,
 }
 
 // Evaluations of the query with variables that stand for any node.
 
 // A query has a pair under the row with v in place of its number i. One evaluation.
-fn passes_with(
-    tree: &[u16],
-    prev: &[u16],
-    query: &[u16],
-    whole: bool,
-    k: usize,
-    row: [u16; 3],
-    i: usize,
-    v: usize,
-) -> bool
-    requires { Searchable tree.now prev.now query.now k
-        × (Nodes (size_of tree.now) k row × ((i < k) × (v < size_of tree.now))) }
-    ensures { result ≡ passes tree.now query.now k row i v }
+fn passes_with(search: &Search, row: [u16; 3], i: usize, v: usize) -> bool
+    requires { Searches search.now
+        × (Nodes (size_of search.now.tree.now) search.now.k row
+        × ((i < search.now.k) × (v < size_of search.now.tree.now))) }
+    ensures { result ≡ passes search.now.tree.now search.now.query.now search.now.k row i v }
 {
     let mut at = row;
     at[i] = v as u16;
-    answers::satisfies(tree, prev, query, whole, k, at)
+    answers::satisfies(search, at)
 }
 
-// The lowest number v, of those from a given one on, with which a query has a pair under the row; n if there is none. At most n
-// evaluations.
-fn lowest_passing(
-    tree: &[u16],
-    prev: &[u16],
-    query: &[u16],
-    whole: bool,
-    k: usize,
-    row: [u16; 3],
-    i: usize,
-    from: usize,
-    spent: usize,
-) -> Tried
-    requires { Searchable tree.now prev.now query.now k
-        × (Nodes (size_of tree.now) k row × ((i < k) × ((from ≤ size_of tree.now) × (spent ≤ 65536)))) }
-    ensures { Seeks (passes tree.now query.now k row i) from (size_of tree.now) spent result }
+// The lowest number v, of those from a given one on, with which a query has a pair under the row. At most n evaluations.
+fn lowest_passing(search: &Search, row: [u16; 3], i: usize, from: usize, spent: usize) -> Tried
+    requires { Searches search.now
+        × (Nodes (size_of search.now.tree.now) search.now.k row
+        × ((i < search.now.k) × ((from ≤ size_of search.now.tree.now) × (spent ≤ 65536)))) }
+    ensures { Seeks (passes search.now.tree.now search.now.query.now search.now.k row i) from
+        (size_of search.now.tree.now) spent result }
 {
-    let n = tree.len() / 2;
-    let mut v = from;
     let mut evaluations = spent;
-    while v < n {
+    for v in from..search.tree.len() / 2 {
         evaluations += 1;
-        if passes_with(tree, prev, query, whole, k, row, i, v) {
+        if passes_with(search, row, i, v) {
             return Tried {
-                number: v,
-                evaluations: evaluations,
+                number: Some(v),
+                evaluations,
             };
         }
-        v += 1;
     }
     Tried {
-        number: v,
-        evaluations: evaluations,
+        number: None,
+        evaluations,
     }
 }
 
-// The lowest number, of those from a given one on, with which some answer goes on after the first i numbers of the row; n if there
-// is none. The variables behind it stand for any node; behind the last there is none, and the query serves as it is. At most n
-// evaluations.
-fn lowest_from(
-    tree: &[u16],
-    prev: &[u16],
-    query: &[u16],
-    whole: bool,
-    k: usize,
-    row: [u16; 3],
-    i: usize,
-    from: usize,
-    spent: usize,
-) -> Tried
-    requires { Ready tree.now prev.now query.now k
-        × (Nodes (size_of tree.now) k row × ((i < k) × ((from ≤ size_of tree.now) × (spent ≤ 65536)))) }
-    ensures { Seeks (goes_on tree.now query.now k row i) from (size_of tree.now) spent result }
+// The lowest number, of those from a given one on, with which some answer goes on after the first i numbers of the row. The variables
+// behind it stand for any node; behind the last there is none, and the query serves as it is. At most n evaluations.
+fn lowest_from(search: &Search, row: [u16; 3], i: usize, from: usize, spent: usize) -> Tried
+    requires { ReadyFor search.now
+        × (Nodes (size_of search.now.tree.now) search.now.k row
+        × ((i < search.now.k) × ((from ≤ size_of search.now.tree.now) × (spent ≤ 65536)))) }
+    ensures { Seeks (goes_on search.now.tree.now search.now.query.now search.now.k row i) from
+        (size_of search.now.tree.now) spent result }
 {
     let filled = i + 1;
-    let last = filled == k;
+    let last = filled == search.k;
     if last {
-        return lowest_passing(tree, prev, query, whole, k, row, i, from, spent);
+        return lowest_passing(search, row, i, from, spent);
     }
-    let table = opening::open(query, filled);
-    let end = 4 * (query.len() / 4 + 2);
-    lowest_passing(tree, prev, &table[..end], whole, k, row, i, from, spent)
+    let table = opening::open(search.query, filled);
+    let end = 4 * (search.query.len() / 4 + 2);
+    let opened = Search {
+        tree: search.tree,
+        prev: search.prev,
+        query: &table[..end],
+        whole: search.whole,
+        k: search.k,
+    };
+    lowest_passing(&opened, row, i, from, spent)
 }
 
 // There is an answer. All variables stand for any node. One evaluation.
-fn has_answer(tree: &[u16], prev: &[u16], query: &[u16], whole: bool, k: usize) -> bool
-    requires { Ready tree.now prev.now query.now k }
-    ensures { result ≡ some_answer tree.now query.now k }
+fn has_answer(search: &Search) -> bool
+    requires { ReadyFor search.now }
+    ensures { result ≡ some_answer search.now.tree.now search.now.query.now search.now.k }
 {
-    let table = opening::open(query, 0);
-    let end = 4 * (query.len() / 4 + 2);
-    answers::satisfies(tree, prev, &table[..end], whole, k, [0, 0, 0])
+    answers::goes_on(search, 0, [0, 0, 0])
 }
 
 // The next answer.
 
 // The first answer that begins as the first i numbers of the row, of which there is one. At most 3 × n evaluations.
-fn fill(
-    tree: &[u16],
-    prev: &[u16],
-    query: &[u16],
-    whole: bool,
-    k: usize,
-    row: [u16; 3],
-    i: usize,
-    spent: usize,
-) -> Found
-    requires { Ready tree.now prev.now query.now k
-        × (Nodes (size_of tree.now) k row × ((i ≤ k) × (Begins tree.now query.now k i row × (spent ≤ 4096)))) }
-    ensures { FirstFrom tree.now query.now k i row spent result }
+fn fill(search: &Search, row: [u16; 3], i: usize, spent: usize) -> Found
+    requires { ReadyFor search.now
+        × (Nodes (size_of search.now.tree.now) search.now.k row
+        × ((i ≤ search.now.k)
+        × (Begins search.now.tree.now search.now.query.now search.now.k i row × (spent ≤ 4096)))) }
+    ensures { FirstFrom search.now.tree.now search.now.query.now search.now.k i row spent result }
 {
     let mut at = row;
-    let mut j = i;
     let mut evaluations = spent;
-    while j < k {
-        let t = lowest_from(tree, prev, query, whole, k, at, j, 0, evaluations);
-        at[j] = t.number as u16;
+    for j in i..search.k {
+        let t = lowest_from(search, at, j, 0, evaluations);
+        at[j] = t.number.unwrap() as u16;
         evaluations = t.evaluations;
-        j += 1;
     }
     Found {
-        spot: answers::Spot {
-            there: true,
-            row: at,
-        },
-        evaluations: evaluations,
+        spot: Some(at),
+        evaluations,
     }
 }
 
-// There is no answer left; the row is of no account.
-fn no_answer(row: [u16; 3], evaluations: usize) -> Found
-    ensures { result ≡ no_answer row evaluations }
+// There is no answer left.
+fn no_answer(evaluations: usize) -> Found
+    ensures { result ≡ no_answer evaluations }
 {
     Found {
-        spot: answers::Spot {
-            there: false,
-            row: row,
-        },
-        evaluations: evaluations,
+        spot: None,
+        evaluations,
     }
 }
 
 // The first answer after a row. From the last variable to the first, a higher number is sought with which some answer goes on; the
 // later variables are then filled. At most 6 × n evaluations.
-fn answer_after(
-    tree: &[u16],
-    prev: &[u16],
-    query: &[u16],
-    whole: bool,
-    k: usize,
-    row: [u16; 3],
-) -> Found
-    requires { Ready tree.now prev.now query.now k × Below (size_of tree.now) (take k row) }
-    ensures { Sought tree.now query.now k row result }
+fn answer_after(search: &Search, row: [u16; 3]) -> Found
+    requires { ReadyFor search.now × Below (size_of search.now.tree.now) (take search.now.k row) }
+    ensures { Sought search.now.tree.now search.now.query.now search.now.k row result }
 {
-    let n = tree.len() / 2;
-    let mut i = k;
     let mut evaluations = 0;
-    while 0 < i {
-        i -= 1;
+    for i in (0..search.k).rev() {
         let from = model::wide(row[i]) + 1;
-        let t = lowest_from(tree, prev, query, whole, k, row, i, from, evaluations);
+        let t = lowest_from(search, row, i, from, evaluations);
         evaluations = t.evaluations;
-        if t.number < n {
+        if let Some(v) = t.number {
             let mut at = row;
-            at[i] = t.number as u16;
-            return fill(tree, prev, query, whole, k, at, i + 1, evaluations);
+            at[i] = v as u16;
+            return fill(search, at, i + 1, evaluations);
         }
     }
-    no_answer(row, evaluations)
+    no_answer(evaluations)
 }
 
 // The first answer after a cursor's row, or the first of all. At most 6 × n evaluations.
-fn first_answer(
-    tree: &[u16],
-    prev: &[u16],
-    query: &[u16],
-    whole: bool,
-    k: usize,
-    cursor: model::Cursor,
-) -> Found
-    requires { Ready tree.now prev.now query.now k
-        × (has_begun cursor ≡ true → Below (size_of tree.now) (row_of k cursor)) }
-    ensures { SoughtAfter tree.now query.now k cursor result }
+fn first_answer(search: &Search, cursor: model::Cursor) -> Found
+    requires { ReadyFor search.now
+        × (has_begun cursor ≡ true → Below (size_of search.now.tree.now) (row_of search.now.k cursor)) }
+    ensures { SoughtAfter search.now.tree.now search.now.query.now search.now.k cursor result }
 {
     let begun = cursor.begun != 0;
     if begun {
-        return answer_after(
-            tree,
-            prev,
-            query,
-            whole,
-            k,
-            [cursor.first, cursor.second, cursor.third],
-        );
+        return answer_after(search, [cursor.first, cursor.second, cursor.third]);
     }
-    if has_answer(tree, prev, query, whole, k) {
-        return fill(tree, prev, query, whole, k, [0, 0, 0], 0, 1);
+    if has_answer(search) {
+        return fill(search, [0, 0, 0], 0, 1);
     }
-    no_answer([0, 0, 0], 1)
+    no_answer(1)
 }
 
 // A page of them.
 
-// A page with the evaluations that it took.
-fn counted(p: answers::Paged, evaluations: usize) -> Quick
-    ensures { result ≡ counted_of p evaluations }
-{
-    let page = p.reply;
-    let last = p.cursor;
-    Quick {
-        reply: model::QuickReply {
-            number: page.number,
-            place: page.place,
-            count: page.count,
-            more: page.more,
-            evaluations: evaluations,
-        },
-        cursor: last,
-    }
-}
-
 // The answers after a cursor are written to a buffer, as many as it has whole room for, and one more is looked for, to tell
 // whether there is one. At most 6 × n evaluations for each row written, and as many for that one.
-fn write_page(
-    tree: &[u16],
-    prev: &[u16],
-    query: &[u16],
-    whole: bool,
-    k: usize,
-    cursor: model::Cursor,
-    rows: &mut [u16],
-) -> Quick
-    requires { Ready tree.now prev.now query.now k
-        × (has_begun cursor ≡ true → Below (size_of tree.now) (row_of k cursor)) }
-    ensures { PageWritten tree.now query.now k cursor rows.old result rows.new }
+fn write_page(search: &Search, cursor: model::Cursor, rows: &mut [u16]) -> model::QuickPage
+    requires { ReadyFor search.now
+        × (has_begun cursor ≡ true → Below (size_of search.now.tree.now) (row_of search.now.k cursor)) }
+    ensures { PageWritten search.now.tree.now search.now.query.now search.now.k cursor rows.old result rows.new }
 {
+    let k = search.k;
     let room = rows.len() / k;
-    let first = first_answer(tree, prev, query, whole, k, cursor);
+    let first = first_answer(search, cursor);
     let mut at = first.spot;
     let mut evaluations = first.evaluations;
     let mut last = cursor;
     let mut count = 0;
-    while at.there {
+    while let Some(row) = at {
         if count == room {
-            return counted(answers::page_of(count, true, last), evaluations);
+            let page = model::Page {
+                count: room,
+                more: true,
+                cursor: last,
+            };
+            return model::QuickPage { page, evaluations };
         }
-        let row = at.row;
         answers::write_row(k, row, rows, count * k);
         last = answers::cursor_at(k, last, row);
         count += 1;
-        let following = answer_after(tree, prev, query, whole, k, row);
+        let following = answer_after(search, row);
         evaluations += following.evaluations;
         at = following.spot;
     }
-    counted(answers::page_of(count, false, last), evaluations)
+    let page = model::Page {
+        count,
+        more: false,
+        cursor: last,
+    };
+    model::QuickPage { page, evaluations }
 }
 
 // The checks of a quick page: those of a page, with 29 between 15 and 17.
@@ -304,74 +220,45 @@ fn check_quick(
     columns: usize,
     cursor: model::Cursor,
     room: usize,
-) -> model::Reply
+) -> Result<(), Refusal>
     requires { AcceptedTree tree.now }
-    ensures { result ≡ verdict (quick_checks tree.now query.now columns cursor room) }
+    ensures { told result ≡ verdict (quick_checks tree.now query.now columns cursor room) }
 {
-    let v = checks::check_listing(tree, query, columns);
-    if v.number != 0 {
-        return v;
-    }
-    let s = sharing::check_sharing(query);
-    if s.number != 0 {
-        return s;
-    }
+    checks::check_listing(tree, query, columns)?;
+    sharing::check_sharing(query)?;
     checks::check_paging(tree, columns, cursor, room)
 }
 
-// The reply to a refused call: no evaluation was made.
-pub fn refused(v: model::Reply, cursor: model::Cursor) -> Quick
-    ensures { result ≡ counted_of (refused_page v cursor) 0 }
-{
-    Quick {
-        reply: model::QuickReply {
-            number: v.number,
-            place: v.place,
-            count: 0,
-            more: false,
-            evaluations: 0,
-        },
-        cursor: cursor,
-    }
-}
-
-// The page after a cursor over an accepted tree, by value: the reply, with the evaluations that were made, and the cursor after it. The
-// query is checked, its engine chosen, and the previous siblings found, once a call.
+// The page after a cursor over an accepted tree, by value: how many rows, whether there are more, and the cursor after them, with the
+// evaluations that were made. The query is checked, its engine chosen, and the previous siblings found, once a call.
 pub fn page_from(
     tree: &[u16],
     query: &[u16],
     columns: usize,
     cursor: model::Cursor,
     rows: &mut [u16],
-) -> Quick
+) -> Result<model::QuickPage, Refusal>
     requires { AcceptedTree tree.now }
     ensures { QuickLeaves tree.now query.now columns cursor rows.old
-        result.reply result.cursor rows.new }
+        (told_quick result) (cursor_after_quick cursor result) rows.new }
 {
-    let v = check_quick(tree, query, columns, cursor, rows.len());
-    if v.number != 0 {
-        return refused(v, cursor);
-    }
+    check_quick(tree, query, columns, cursor, rows.len())?;
     let prev = tree::previous_siblings(tree);
-    let whole = nesting::nests(query);
-    write_page(tree, &prev, query, whole, columns, cursor, rows)
+    let search = Search {
+        tree,
+        prev: &prev,
+        query,
+        whole: nesting::nests(query),
+        k: columns,
+    };
+    Ok(write_page(&search, cursor, rows))
 }
 
-// A page without the evaluations that it took.
-fn plain(p: Quick) -> answers::Paged
-    ensures { result ≡ plain_of p }
+// The query does not keep the rule, so that there is no quick page.
+fn breaks_rule(refusal: Refusal) -> bool
+    ensures { result ≡ eqb (refused refusal).number 29 }
 {
-    let page = p.reply;
-    let last = p.cursor;
-    answers::Paged {
-        reply: model::PageReply {
-            number: page.number,
-            place: page.place,
-            count: page.count,
-            more: page.more,
-        },
-        cursor: last,
-    }
+    matches!(refusal, Refusal::SharedVariable(_))
 }
 
 // The page after a cursor, of any query: the quick one where the query keeps the rule, and else the plain one.
@@ -381,15 +268,18 @@ pub fn page_either(
     columns: usize,
     cursor: model::Cursor,
     rows: &mut [u16],
-) -> answers::Paged
+) -> Result<model::Page, Refusal>
     requires { AcceptedTree tree.now }
     ensures { PageLeaves (page_outcome tree.now query.now columns cursor rows.old)
-        result.reply result.cursor rows.new }
+        (told_page result) (cursor_after cursor result) rows.new }
 {
-    let p = page_from(tree, query, columns, cursor, rows);
-    let reply = p.reply;
-    if reply.number == 29 {
-        return answers::page_from(tree, query, columns, cursor, rows);
+    match page_from(tree, query, columns, cursor, rows) {
+        Ok(quick) => Ok(quick.page),
+        Err(refusal) => {
+            if breaks_rule(refusal) {
+                return answers::page_from(tree, query, columns, cursor, rows);
+            }
+            Err(refusal)
+        }
     }
-    plain(p)
 }

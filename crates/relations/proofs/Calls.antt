@@ -3,33 +3,31 @@ use Prim.Native.Nat.{ℕ, ◌+◌, ◌-◌, ◌≤◌, ◌<◌}
 use native.Mathlib.Omega.{arith}
 use mathlib.Core.Path.{◌≡◌, refl, sym, ap, ap₂, ◌∙◌}
 use mathlib.Core.Logic.{⊎_elim}
-use mathlib.Core.Bool.{Bool, true, false, cond, ◌&&◌, ◌||◌}
+use mathlib.Core.Bool.{Bool, true, false, cond}
 use mathlib.Core.List.{List}
 use lib.ListN.{length, get_or}
-use lib.Dec.{ltb, eqb}
-use borrow.Author.Tests.{ltb-true, ltb-false, le-ltb, eq-eqb, ne_eqb, eqb-true, eqb-false}
+use lib.Dec.{ltb}
+use borrow.Author.Tests.{ltb-true, ltb-false, le-ltb}
 use Rattle.model.specs.declared.Entry.{Entry}
+use Rattle.model.specs.declared.kind.Kind.{Kind}
+use Rattle.model.specs.declared.kind.Kind.TheVariants.{Union, Except}
+use Rattle.model.specs.Numbers.{kind_number}
 use Rattle.model.specs.Tree.{size_of}
 use Rattle.model.specs.QueryTable.{kind, left, right, entry}
 use Rattle.model.specs.Kinds.{is_path, left_path, left_expr, right_path, right_expr, has_left, has_right}
 use Rattle.model.specs.Results.{assigned}
-use Rattle.model.proofs.Booleans.{both_yes, or_left, or_right, no_or, yes_left, yes_right, guarded}
+use Rattle.model.proofs.Booleans.{both_yes, or_left, or_right, yes_left, yes_right}
 use Rattle.model.proofs.KindTests.{path_on_left, path_on_right}
-use Rattle.eval.proofs.Calls.{Operand, same_on_both, left_path_lem, right_path_lem, left_expr_lem, right_expr_lem}
-use Rattle.aside.specs.Aside.{aside_at, in_turn}
+use Rattle.eval.proofs.Calls.{other_kind, Operand, same_on_both, left_path_lem, right_path_lem, left_expr_lem, right_expr_lem}
+use Rattle.aside.specs.Aside.{aside_at, in_turn, two_tables}
 use Rattle.aside.proofs.Turns.{two_kinds}
 use Rattle.aside.proofs.Entries.{aside_left, aside_right, aside_two}
-use Rattle.bits.specs.Words.{words}
 use Rattle.bits.specs.Rows.{Becomes}
-use Rattle.bits.proofs.Words.{length_words}
-use Rattle.relations.specs.Evaluation.{Asks, Joins, Waits, operation, table_at, passed_bits}
+use Rattle.relations.specs.Evaluation.{Asks, Joins, Waits, operation, table_at}
 
 module _ {t prev q nodes counts : List ℕ} {room e : ℕ} {path : Bool} {more : ℕ} {acc : List ℕ} (a : Asks t prev q nodes counts room e path more acc) where
   pub small_tree : size_of t ≤ 256
   small_tree = a.ready.linked.tree.sound.at_most
-
-  pub some_node : 0 < size_of t
-  some_node = a.ready.linked.tree.sound.some_node
 
   -- the same entry, with room for another number of tables, over words of the same length
   pub ask_same : {acc' : List ℕ} (space m : ℕ) → aside_at q e + m ≤ space → length acc' ≡ length acc → Asks t prev q nodes counts space e path m acc'
@@ -74,43 +72,39 @@ module _ {t prev q nodes counts : List ℕ} {room e : ℕ} {path : Bool} {more :
       left_index = omega (arith, (left_path_lem fe a.ready a.kinds.within h).kinds.within, a.few, a.counted.size)
 
       -- the left operand, with room for a table beside it
-      pub ask_spare : {acc' : List ℕ} → (eqb f.kind 1 && ltb (get_or counts f.left 0) room) ≡ true → length acc' ≡ length acc → (f.left < e) × Asks t prev q nodes counts room f.left true 1 acc'
-      ask_spare s ea =
-          let l : get_or counts f.left 0 < room = ltb-true (get_or counts f.left 0) room (yes_right (eqb f.kind 1) (ltb (get_or counts f.left 0) room) s) in
+      pub ask_spare : {acc' : List ℕ} → get_or counts f.left 0 < room → length acc' ≡ length acc → (f.left < e) × Asks t prev q nodes counts room f.left true 1 acc'
+      ask_spare l ea =
           ask_operand room f.left true 1 (left_path_lem fe a.ready a.kinds.within h) (omega (arith, counted_left)) ea
 
     module _ (h : right_path f.kind ≡ true) where
       counted_right : get_or counts f.right 0 ≡ aside_at q f.right
       counted_right = a.counted.at f.right (right_path_lem fe a.ready a.kinds.within h).kinds.within
 
-      pub right_index : f.right < length counts
-      right_index = omega (arith, (right_path_lem fe a.ready a.kinds.within h).kinds.within, a.few, a.counted.size)
+-- one of two numbers by a flag
+pub first_of : (b : Bool) (x y : ℕ) {i : ℕ} → b ≡ true → i ≡ x → i ≡ cond b x y
+first_of b x y h p = rw h p
 
--- there is room to spare in compositions alone
-pub spare_kind : (k : ℕ) (b : Bool) → (eqb k 1 && b) ≡ true → k ≡ 1
-spare_kind k b h = eqb-true k 1 (yes_left (eqb k 1) b h)
+pub second_of : (b : Bool) (x y : ℕ) {i : ℕ} → b ≡ false → i ≡ y → i ≡ cond b x y
+second_of b x y h p = rw h p
 
--- what is composed as a whole table, and what is not
-pub not_whole : (k : ℕ) → (ltb k 5 || eqb k 13) ≡ false → (5 ≤ k) × (k ≡ 13 → ⊥)
-not_whole k h = let (a, b) = no_or (ltb k 5) (eqb k 13) h in (ltb-false k 5 a, eqb-false k 13 b)
-
--- how two tables are combined, by the kind
-
-pub same_operation : (k : ℕ) → k ≡ 14 → 1 ≡ operation k
-same_operation k h = rw h
-
-pub path_operation : (k : ℕ) → (k ≡ 14 → ⊥) → k - 2 ≡ operation k
-path_operation k h = rw (ne_eqb k 14 h)
+-- two tables are intersected where they are neither joined nor taken from one another
+pub operation_left : (k : Kind) → two_tables (kind_number k) ≡ true → 2 ≤ kind_number k → (k ≡ Union → ⊥) → (k ≡ Except → ⊥) → 1 ≡ operation (kind_number k)
+operation_left k h l u x = ⊎_elim by_path (λ e. rw e) (two_kinds (kind_number k) h)
+  where
+    by_path : (0 < kind_number k) × (kind_number k < 5) → 1 ≡ operation (kind_number k)
+    by_path w =
+        let e : kind_number k ≡ 3 = omega (arith, w.0, w.1, other_kind u refl, other_kind x refl) in
+        rw e
 
 -- the operations on two tables: of a path without room to spare, and of `same`
 
 pub joins_path : {t prev q nodes counts : List ℕ} {room e : ℕ} {acc : List ℕ} → Asks t prev q nodes counts room e true 0 acc → {f : Entry} → f ≡ entry q e → 1 ≤ f.kind → f.kind ≤ 4
-    → (eqb f.kind 1 && ltb (get_or counts f.left 0) room) ≡ false → Joins t prev q nodes counts room e acc
+    → (f.kind ≡ 1 → room ≤ get_or counts f.left 0) → Joins t prev q nodes counts room e acc
 joins_path {q = q} {counts = counts} {room = room} {e = e} a {f} fe k1 k4 h = record {
   asks = ask_own a;
   both = rw fe at (both_yes on_left_lem on_right_lem);
   narrow = λ z.
-      let l : room ≤ get_or counts f.left 0 = ltb-false (get_or counts f.left 0) room (guarded (eqb f.kind 1) (ltb (get_or counts f.left 0) room) h (eq-eqb f.kind 1 (rw fe z))) in
+      let l : room ≤ get_or counts f.left 0 = h (rw fe z) in
       let c : get_or counts f.left 0 ≡ aside_at q (left q e) = counted_left a fe on_left_lem ∙ ap (λ (g : Entry). aside_at q g.left) fe in
       omega arith;
 }
@@ -196,14 +190,6 @@ module _ {t prev q nodes counts : List ℕ} {room e : ℕ} {turned : Bool} {acc 
 
   pub straight_right : cond turned f.left f.right ≡ f.right
   straight_right = rw straight
-
--- a row of bits has four words
-pub four : (S : ℕ → Bool) (s : List ℕ) → s ≡ words 4 S → length s ≡ 4
-four S s p = rw p (length_words 4 S)
-
-pub passed_four : (t q nodes : List ℕ) (e : ℕ) (s : List ℕ) → s ≡ passed_bits t q nodes e → length s ≡ 4
-unfolding passed_bits
-passed_four t q nodes e s p = four _ s p
 
 -- the node of a variable, as it is read
 pub assigned_is : (nodes : List ℕ) (k v : ℕ) → v ≡ get_or nodes k 0 → v ≡ assigned nodes k

@@ -10,6 +10,7 @@ use Rattle.aside.specs.Aside.{two_tables, aside_at, Counts}
 use Rattle.bits.specs.Words.{words}
 use Rattle.bits.specs.BitTables.{bit_relation}
 use Rattle.bits.specs.Rows.{within, combined, composed}
+use Rattle.relations.specs.declared.table.Evaluation.{Evaluation}
 
 -- an entry, a path where the flag is set and else a node expression, that can be evaluated, with words for its table, and with room for
 -- the tables that it keeps aside and for so many more; there are no more entries than counts
@@ -59,3 +60,33 @@ pub record Waits (t prev q nodes counts : List ℕ) (room e : ℕ) (turned : Boo
   pub joins : Joins t prev q nodes counts room e acc
   pub order : turned ≡ ltb (aside_at q (left q e)) (aside_at q (right q e))
   pub holds : (x y : ℕ) → x < size_of t → y < 256 → bit_relation acc x y ≡ table_at t q nodes (cond turned (right q e) (left q e)) x y
+
+-- The same of an evaluation: what it is lent, and how many tables each entry keeps aside.
+
+-- Asks, of what an evaluation is lent
+abbrev pub Asked : Evaluation → ℕ → ℕ → Bool → ℕ → List ℕ → Type 0
+Asked s room e path more acc = Asks s.call.now.tree.now s.call.now.prev.now s.call.now.query.now s.call.now.nodes.now s.counts room e path more acc
+
+-- Joins
+abbrev pub Joined : Evaluation → ℕ → ℕ → List ℕ → Type 0
+Joined s room e acc = Joins s.call.now.tree.now s.call.now.prev.now s.call.now.query.now s.call.now.nodes.now s.counts room e acc
+
+-- Waits
+abbrev pub Waiting : Evaluation → ℕ → ℕ → Bool → List ℕ → Type 0
+Waiting s room e turned acc = Waits s.call.now.tree.now s.call.now.prev.now s.call.now.query.now s.call.now.nodes.now s.counts room e turned acc
+
+-- what the definitions above come to of it
+abbrev pub table_in : Evaluation → ℕ → ℕ → ℕ → Bool
+table_in s e = table_at s.call.now.tree.now s.call.now.query.now s.call.now.nodes.now e
+
+abbrev pub joined_in : Evaluation → ℕ → ℕ → ℕ → Bool
+joined_in s e = joined_at s.call.now.tree.now s.call.now.query.now s.call.now.nodes.now e
+
+abbrev pub applied_in : Evaluation → ℕ → List ℕ → ℕ → ℕ → Bool
+applied_in s e w = applied_at s.call.now.tree.now s.call.now.query.now s.call.now.nodes.now e w
+
+abbrev pub passing_in : Evaluation → ℕ → ℕ → Bool
+passing_in s e = passing s.call.now.tree.now s.call.now.query.now s.call.now.nodes.now e
+
+abbrev pub passed_in : Evaluation → ℕ → List ℕ
+passed_in s e = passed_bits s.call.now.tree.now s.call.now.query.now s.call.now.nodes.now e

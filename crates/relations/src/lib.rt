@@ -6,9 +6,11 @@ pub mod table;
 pub mod write;
 
 ghost use Rattle.std.specs.Prelude.{◌≡◌};
-ghost use Rattle.model.specs.Refusals.{verdict};
+ghost use Rattle.model.specs.Refusals.{told, verdict};
 ghost use Rattle.model.specs.Accepted.{AcceptedTree};
 ghost use Rattle.relations.specs.Services.{bit_pairs_checks, BitPairsLeave};
+
+use model::Refusal;
 
 // The checks 5 to 17 and 20, for a buffer of so many words.
 fn check_pairs(
@@ -17,14 +19,11 @@ fn check_pairs(
     columns: usize,
     nodes: &[u16],
     room: usize,
-) -> model::Reply
+) -> Result<(), Refusal>
     requires { AcceptedTree tree.now }
-    ensures { result ≡ verdict (bit_pairs_checks tree.now query.now columns nodes.now room) }
+    ensures { told result ≡ verdict (bit_pairs_checks tree.now query.now columns nodes.now room) }
 {
-    let v = checks::check_tables(tree, query, columns, nodes);
-    if v.number != 0 {
-        return v;
-    }
+    checks::check_tables(tree, query, columns, nodes)?;
     checks::check_room(room, 4 * (tree.len() / 2))
 }
 
@@ -38,16 +37,13 @@ pub fn pairs(
     columns: usize,
     nodes: &[u16],
     words: &mut [u64],
-) -> model::Reply
+) -> Result<(), Refusal>
     requires { AcceptedTree tree.now }
     ensures { BitPairsLeave tree.now query.now
         columns nodes.now words.old
-        result words.new }
+        (told result) words.new }
 {
-    let v = check_pairs(tree, query, columns, nodes, words.len());
-    if v.number != 0 {
-        return v;
-    }
+    check_pairs(tree, query, columns, nodes, words.len())?;
     write::pairs_into(tree, query, nodes, words);
-    v
+    Ok(())
 }

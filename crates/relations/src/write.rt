@@ -4,17 +4,8 @@ ghost use Rattle.model.specs.Tree.{size_of};
 ghost use Rattle.checks.specs.Tables.{Tables};
 ghost use Rattle.relations.specs.Services.{pairs_words};
 
-// How many tables may stand aside: as many as the query needs, and two at least, so that a set operation or a star in a run of steps, or
-// a filter with a composition in it, can be applied to the table of what follows.
-pub fn room_for(needed: usize) -> usize
-    requires { needed ≤ 5 }
-    ensures { (needed ≤ result) × (result ≤ 5) }
-{
-    if needed < 2 {
-        return 2;
-    }
-    needed
-}
+use crate::table::Evaluation;
+use model::Call;
 
 // All pairs of the query, made in the buffer itself. No accepted query needs more than five tables aside.
 pub fn pairs_into(tree: &[u16], query: &[u16], nodes: &[u16], to: &mut [u64])
@@ -25,8 +16,16 @@ pub fn pairs_into(tree: &[u16], query: &[u16], nodes: &[u16], to: &mut [u64])
         ++ drop (4 * size_of tree.now) to.old }
 {
     let prev = tree::previous_siblings(tree);
-    let counts = aside::counts(query);
+    let call = Call {
+        tree,
+        prev: &prev,
+        query,
+        nodes,
+    };
+    let evaluation = Evaluation {
+        call: &call,
+        counts: aside::counts(query),
+    };
     let last = query.len() / 4 - 1;
-    let room = room_for(counts[last] as usize);
-    crate::table::table(tree, &prev, query, nodes, &counts, room, last, to);
+    evaluation.table(evaluation.room(last), last, to);
 }

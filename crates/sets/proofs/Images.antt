@@ -1,33 +1,52 @@
 -- Laws of node sets as bytes, and of the images of sets under relations.
-use Prim.Native.Nat.{ℕ, zero, suc, ◌+◌, ◌≤◌, ◌<◌}
+use Prim.Native.Nat.{ℕ, zero, suc, ◌+◌, ◌-◌, ◌≤◌, ◌<◌}
 use native.Mathlib.Omega.{arith}
 use native.Mathlib.Nat.{zero-add}
 use mathlib.Core.Path.{◌≡◌, refl, sym, ap, ◌∙◌}
-use mathlib.Core.Bool.{Bool, true, false, not, ◌&&◌, ◌||◌, and_comm, and_assoc}
-use mathlib.Core.List.{List, [], ◌∷◌}
-use lib.ListN.{get_or-eq_default}
+use mathlib.Core.Bool.{Bool, true, false, ◌&&◌, ◌||◌, and_comm, and_assoc}
+use mathlib.Core.Logic.{⊎_elim}
+use mathlib.Core.List.{List, ◌++◌}
+use lib.ListN.{length, get_or, take, drop, replicate, length-replicate, get_or-replicate}
 use lib.Dec.{ltb, eqb}
-use borrow.Author.Tests.{ltb-true, lt-ltb, eqb-true}
-use Rattle.model.specs.Sets.{any, tab, ones, memb, upto, turn, image}
-use Rattle.model.proofs.Booleans.{Seen, yes!, no!, seen, bool_ext, both_yes, yes_right}
+use borrow.Author.Tests.{ltb-true, lt-ltb, le-ltb, eqb-true}
+use Rattle.std.proofs.lemmas.Grind.{common_steps}
+use Rattle.std.proofs.lemmas.List.{length-take, get_or-take, get_or-drop, get_or-append_right}
+use Rattle.model.specs.Sets.{any, bit, tab, ones, memb, upto, turn, image}
+use Rattle.model.proofs.Booleans.{lt_or_le, Seen, yes!, no!, seen, bool_ext, both_yes, yes_right}
 use Rattle.model.proofs.Exists.{any_cong, and_any, any_and, any_swap, any_or, any_one}
-use Rattle.model.proofs.Bytes.{tab_cong, tab_append, memb_tab}
+use Rattle.model.proofs.Bytes.{tab_of, tab_cong, tab_append, memb_tab}
 use Rattle.model.proofs.Counts.{ones_append}
 use Rattle.sets.specs.NodeSets.{always, only, combine, combination, shifted}
 
 -- a count by halves
+
+pub part_bit : (s : List ℕ) (at m i v : ℕ) → v ≡ bit (memb (take m (drop at s)) i) → i < length (take m (drop at s)) → v ≡ bit (shifted at s i)
+unfolding memb
+part_bit s at m i v e l = let h : i < m = omega (arith, length-take {A = ℕ}) in e ∙ rw (get_or-take m (drop at s) i 0 h, get_or-drop at s i 0)
 
 pub ones_halves : (s : List ℕ) (a b : ℕ) → a ≡ ones (tab 128 (shifted 0 s)) → b ≡ ones (tab 128 (shifted 128 s)) → a + b ≡ ones (tab 256 (memb s))
 ones_halves s a b p q =
     rw (p, q, tab_cong 128 (shifted 0 s) (memb s) (λ k l. ap (memb s) (zero-add k)))
     (sym (ones_append (tab 128 (memb s)) (tab 128 (shifted 128 s))) ∙ ap ones (sym (tab_append 128 128 (memb s))))
 
--- combining at one node
+-- one byte for each number below n
 
--- the third way
-pub combine_else : (op : ℕ) (a b : Bool) → (op ≡ 0 → ⊥) → (op ≡ 1 → ⊥) → (a && not b) ≡ combine op a b
-unfolding combine
-combine_else op a b p q = sym (get_or-eq_default ((a || b) ∷ (a && b) ∷ []) (a && not b) (let h : 2 ≤ op = omega arith in h))
+pub filled : (b : Bool) (n m v : ℕ) (p : List ℕ) → n ≤ 256 → p ≡ replicate m v → m ≡ n → v ≡ bit b → p ++ drop n (replicate 256 0) ≡ tab 256 (upto n (always b))
+unfolding upto
+filled b n m v p h e z q = rw (e, z) (tab_of 256 (λ k. ltb k n && b) (replicate n v ++ drop n (replicate 256 0)) size at)
+  where
+    size : length (replicate n v ++ drop n (replicate 256 0)) ≡ 256
+    size = grind (arith, common_steps)
+
+    at : (i : ℕ) → i < 256 → get_or (replicate n v ++ drop n (replicate 256 0)) i 0 ≡ bit (ltb i n && b)
+    at i l = ⊎_elim
+        (λ k. (let f : get_or (replicate n v ++ drop n (replicate 256 0)) i 0 ≡ v = grind (arith, common_steps) in f) ∙ q ∙ ap (λ (c : Bool). bit (c && b)) (sym (lt-ltb i n k)))
+        (λ k.
+        get_or-append_right (replicate n v) (drop n (replicate 256 0)) n i 0 (length-replicate n v) k
+        ∙ get_or-drop n (replicate 256 0) (i - n) 0 ∙ get_or-replicate 256 (n + (i - n)) 0 0 (omega arith) ∙ ap (λ (c : Bool). bit (c && b)) (sym (le-ltb i n k)))
+        (lt_or_le i n)
+
+-- combining at one node
 
 -- every way keeps a bound
 pub combine_within : (op : ℕ) (c a b : Bool) → combine op (c && a) (c && b) ≡ (c && combine op a b)

@@ -5,20 +5,21 @@
 
 ghost use Rattle.std.specs.Prelude.{◌≡◌, true, ◌++◌, ◌≤◌, ◌<◌, length, drop};
 ghost use Rattle.model.specs.Sets.{any, bit, tab, ones, memb, upto};
-ghost use Rattle.sets.specs.NodeSets.{always, only, combine, combination, shifted};
+ghost use Rattle.sets.specs.NodeSets.{always, only, operation_number, combine, combination, shifted};
 
 // The ways to combine two sets.
-pub const UNION: u8 = 0;
-
-pub const INTERSECTION: u8 = 1;
-
-pub const DIFFERENCE: u8 = 2;
+#[derive(Clone, Copy, PartialEq)]
+pub enum Operation {
+    Union,
+    Intersection,
+    Difference,
+}
 
 // A test as a byte.
 pub fn byte(b: bool) -> u8
     ensures { result ≡ bit b }
 {
-    b as u8
+    u8::from(b)
 }
 
 // The nodes below n if b, else none.
@@ -26,13 +27,8 @@ pub fn full_if(b: bool, n: usize) -> [u8; 256]
     requires { n ≤ 256 }
     ensures { result ≡ tab 256 (upto n (always b)) }
 {
-    let v = byte(b);
     let mut r = [0u8; 256];
-    let mut i = 0;
-    while i < n {
-        r[i] = v;
-        i += 1;
-    }
+    r[..n].fill(byte(b));
     r
 }
 
@@ -55,27 +51,24 @@ pub fn single(x: usize) -> [u8; 256]
 }
 
 // One node of a combination.
-fn merge(op: u8, x: bool, y: bool) -> bool
-    ensures { result ≡ combine op x y }
+#[tactic(auto, unfolding(crate::specs::NodeSets::combine))]
+fn merge(op: Operation, x: bool, y: bool) -> bool
+    ensures { result ≡ combine (operation_number op) x y }
 {
-    if op == UNION {
-        return x | y;
+    match op {
+        Operation::Union => x | y,
+        Operation::Intersection => x & y,
+        Operation::Difference => x & !y,
     }
-    if op == INTERSECTION {
-        return x & y;
-    }
-    x & !y
 }
 
 // Two sets combined, node by node.
-pub fn combined(op: u8, a: [u8; 256], b: [u8; 256]) -> [u8; 256]
-    ensures { result ≡ tab 256 (combination op a b) }
+pub fn combined(op: Operation, a: [u8; 256], b: [u8; 256]) -> [u8; 256]
+    ensures { result ≡ tab 256 (combination (operation_number op) a b) }
 {
     let mut r = [0u8; 256];
-    let mut i = 0;
-    while i < 256 {
+    for i in 0..256 {
         r[i] = byte(merge(op, a[i] != 0, b[i] != 0));
-        i += 1;
     }
     r
 }
@@ -86,10 +79,8 @@ pub fn occupied(n: usize, s: [u8; 256]) -> bool
     ensures { result ≡ any n (memb s) }
 {
     let mut found = false;
-    let mut i = 0;
-    while i < n {
-        found = (s[i] != 0) | found;
-        i += 1;
+    for b in &s[..n] {
+        found = (*b != 0) | found;
     }
     found
 }
@@ -101,10 +92,8 @@ fn count_half(s: [u8; 256], at: usize) -> u8
     ensures { result ≡ ones (tab 128 (shifted at s)) }
 {
     let mut found = 0u8;
-    let mut i = 0;
-    while i < 128 {
-        found += byte(s[at + i] != 0);
-        i += 1;
+    for b in &s[at..at + 128] {
+        found += byte(*b != 0);
     }
     found
 }
@@ -115,12 +104,12 @@ pub fn count_of(s: [u8; 256]) -> usize
 {
     let low = count_half(s, 0);
     let high = count_half(s, 128);
-    low as usize + high as usize
+    usize::from(low) + usize::from(high)
 }
 
 // Two sets combined, node by node, and how many nodes the result has.
-pub fn combined_counted(op: u8, a: [u8; 256], b: [u8; 256], count: &mut usize) -> [u8; 256]
-    ensures { (result ≡ tab 256 (combination op a b)) × (count.new ≡ ones result) }
+pub fn combined_counted(op: Operation, a: [u8; 256], b: [u8; 256], count: &mut usize) -> [u8; 256]
+    ensures { (result ≡ tab 256 (combination (operation_number op) a b)) × (count.new ≡ ones result) }
 {
     let r = combined(op, a, b);
     *count = count_of(r);
@@ -133,10 +122,8 @@ pub fn load(set: &[u8]) -> [u8; 256]
     ensures { result ≡ tab 256 (upto (length set.now) (memb set.now)) }
 {
     let mut r = [0u8; 256];
-    let mut i = 0;
-    while i < set.len() {
-        r[i] = byte(set[i] != 0);
-        i += 1;
+    for (i, b) in set.iter().enumerate() {
+        r[i] = byte(*b != 0);
     }
     r
 }
@@ -146,10 +133,8 @@ pub fn put(out: &mut [u8], r: [u8; 256], n: usize)
     requires { (n ≤ 256) × (n ≤ length out.old) }
     ensures { out.new ≡ tab n (memb r) ++ drop n out.old }
 {
-    let mut i = 0;
-    while i < n {
+    for i in 0..n {
         let b = byte(r[i] != 0);
         out[i] = b;
-        i += 1;
     }
 }

@@ -1,17 +1,20 @@
 -- The image of a set under each axis and under a step, by moves along the links.
-use Prim.Native.Nat.{ℕ, zero, suc, ◌+◌, ◌/◌, ◌%◌, ◌≤◌, ◌<◌}
+use Prim.Native.Nat.{ℕ, zero, suc, ◌%◌, ◌≤◌, ◌<◌}
 use native.Mathlib.Omega.{arith}
 use mathlib.Core.Path.{◌≡◌, refl, sym, ap, ◌∙◌}
-use mathlib.Core.Logic.{⊎_elim}
+use mathlib.Core.Logic.{◌⊎◌, ⊎_elim}
 use mathlib.Core.Bool.{Bool, true, false, not, ◌&&◌, and_comm}
 use mathlib.Core.List.{List, [], ◌∷◌}
 use lib.ListN.{get_or}
 use lib.Dec.{ltb, eqb}
-use borrow.Author.Tests.{eq-eqb, ne_eqb, ltb-true, ltb-false, not-true}
+use borrow.Author.Tests.{ne_eqb, ltb-true, ltb-false, not-true}
 use Rattle.model.specs.Sets.{any, bit, tab, memb, upto, turn, image}
 use Rattle.model.specs.Tree.{Tree, tree_of, size_of}
 use Rattle.model.specs.Axes.{is_document, no_axis, following, following_sibling, axis, matches, passes, steps}
 use Rattle.model.specs.Accepted.{Ordered}
+use Rattle.model.specs.Numbers.{axis_number}
+use Rattle.model.specs.declared.kind.Axis.{Axis}
+use Rattle.model.specs.declared.kind.Axis.TheVariants.{Itself, Child, Parent, Right, Left, Descendant, Ancestor, Following, Preceding, FollowingSibling, PrecedingSibling, DescendantOrSelf, AncestorOrSelf}
 use Rattle.model.proofs.Booleans.{Seen, seen, bool_ext, both_yes, yes_left, yes_right, or_left, or_right, or_cases, lt_or_le}
 use Rattle.model.proofs.Booleans.Seen.{yes!, no! }
 use Rattle.model.proofs.Exists.{any_intro, any_elim, any_cong, any_one}
@@ -19,7 +22,7 @@ use Rattle.model.proofs.Axes.{eqb_comm}
 use Rattle.sets.specs.NodeSets.{always, combination}
 use Rattle.sets.proofs.Images.{upto_cong, trim_upto, image_cong, image_turned, image_compose, image_or, image_keep, image_kept}
 use Rattle.tree.specs.Links.{links}
-use Rattle.steps.specs.Moves.{hop, plus, star, forward, passes_all, Linked}
+use Rattle.steps.specs.Moves.{hop, plus, star, forward, is_converse, pair_of, passes_all, Linked}
 use Rattle.steps.proofs.Closure.{star_lower}
 use Rattle.steps.proofs.Axes.{child_hop, right_hop, descendant_plus, descendant_star, sibling_plus, following_of, following_is, axis_turn_lem}
 
@@ -120,19 +123,41 @@ module _ (t prev : List ℕ) (k : Linked t prev) where
 
 -- an axis is a forward one or its converse
 
-module _ (t : Tree) (n a : ℕ) (back : Bool) (S : ℕ → Bool) (r : List ℕ) (l : n ≤ 256) (m : a ≤ 12) where
-  axis_by : r ≡ tab 256 (image n (turn back (turn (eqb (a % 2) 0) (forward t ((a + 1) / 2)))) S) → r ≡ tab 256 (image n (turn back (axis t a)) S)
-  axis_by e = e ∙ image_turned n l back (turn (eqb (a % 2) 0) (forward t ((a + 1) / 2))) (axis t a) S (λ x y lx ly. sym (axis_turn_lem t a x y m))
+axis_within : (a : Axis) → axis_number a ≤ 12
+axis_within Itself = omega arith
+axis_within Child = omega arith
+axis_within Parent = omega arith
+axis_within Right = omega arith
+axis_within Left = omega arith
+axis_within Descendant = omega arith
+axis_within Ancestor = omega arith
+axis_within Following = omega arith
+axis_within Preceding = omega arith
+axis_within FollowingSibling = omega arith
+axis_within PrecedingSibling = omega arith
+axis_within DescendantOrSelf = omega arith
+axis_within AncestorOrSelf = omega arith
 
-  pub axis_turned : r ≡ tab 256 (image n (turn (not back) (forward t ((a + 1) / 2))) S) → a % 2 ≡ 0 → r ≡ tab 256 (image n (turn back (axis t a)) S)
-  axis_turned e z = axis_by (e ∙ rw (eq-eqb (a % 2) 0 z) (twice back))
+pub axis_turns : (t : Tree) (a : Axis) (x y : ℕ) → axis t (axis_number a) x y ≡ turn (is_converse (axis_number a)) (forward t (pair_of (axis_number a))) x y
+axis_turns t a x y = axis_turn_lem t (axis_number a) x y (axis_within a)
+
+-- the pair of one of two axes
+pub pair_is : (a b c : Axis) (i : ℕ) → (a ≡ b) ⊎ (a ≡ c) → pair_of (axis_number b) ≡ i → pair_of (axis_number c) ≡ i → pair_of (axis_number a) ≡ i
+pair_is a b c i h p q = ⊎_elim (λ e. ap (λ (x : Axis). pair_of (axis_number x)) e ∙ p) (λ e. ap (λ (x : Axis). pair_of (axis_number x)) e ∙ q) h
+
+module _ (t : Tree) (n : ℕ) (a : Axis) (back : Bool) (S : ℕ → Bool) (r : List ℕ) (l : n ≤ 256) where
+  axis_by : r ≡ tab 256 (image n (turn back (turn (is_converse (axis_number a)) (forward t (pair_of (axis_number a))))) S) → r ≡ tab 256 (image n (turn back (axis t (axis_number a))) S)
+  axis_by e = e ∙ image_turned n l back (turn (is_converse (axis_number a)) (forward t (pair_of (axis_number a)))) (axis t (axis_number a)) S (λ x y lx ly. sym (axis_turns t a x y))
+
+  pub axis_turned : r ≡ tab 256 (image n (turn (not back) (forward t (pair_of (axis_number a)))) S) → is_converse (axis_number a) ≡ true → r ≡ tab 256 (image n (turn back (axis t (axis_number a))) S)
+  axis_turned e z = axis_by (e ∙ rw z (twice back))
     where
-      twice : (b : Bool) → tab 256 (image n (turn (not b) (forward t ((a + 1) / 2))) S) ≡ tab 256 (image n (turn b (turn true (forward t ((a + 1) / 2)))) S)
+      twice : (b : Bool) → tab 256 (image n (turn (not b) (forward t (pair_of (axis_number a)))) S) ≡ tab 256 (image n (turn b (turn true (forward t (pair_of (axis_number a))))) S)
       twice true = refl
       twice false = refl
 
-  pub axis_straight : r ≡ tab 256 (image n (turn back (forward t ((a + 1) / 2))) S) → (a % 2 ≡ 0 → ⊥) → r ≡ tab 256 (image n (turn back (axis t a)) S)
-  axis_straight e z = axis_by (e ∙ rw (ne_eqb (a % 2) 0 z))
+  pub axis_straight : r ≡ tab 256 (image n (turn back (forward t (pair_of (axis_number a)))) S) → is_converse (axis_number a) ≡ false → r ≡ tab 256 (image n (turn back (axis t (axis_number a))) S)
+  axis_straight e z = axis_by (e ∙ rw z)
 
 -- numbers of 16 bits are compared as such
 pub same_tag : (name g : ℕ) → g < 65536 → (ltb name 65536 && eqb g (name % 65536)) ≡ eqb g name

@@ -1,5 +1,5 @@
 -- Moves along links: for a node y a number L y, which is y's link where it is lower than y, and no link else.
-use Rattle.std.specs.Prelude.{ℕ, zero, suc, Bool, true, false, not, ◌&&◌, ◌||◌, List, [], ◌∷◌, get_or, ltb, eqb}
+use Rattle.std.specs.Prelude.{ℕ, zero, suc, ◌+◌, ◌/◌, ◌%◌, Bool, true, false, not, ◌&&◌, ◌||◌, List, [], ◌∷◌, get_or, ltb, eqb}
 use Rattle.model.specs.Tree.{Tree, tree_of, size_of}
 use Rattle.model.specs.Axes.{is_document, self, child, right, descendant, following, following_sibling, descendant_or_self, no_axis}
 use Rattle.model.specs.Accepted.{Ordered}
@@ -42,6 +42,14 @@ forward t h =
     ∷ [])
     h
     no_axis
+
+-- the pair of converses to which an axis belongs, by its number
+abbrev pub pair_of : ℕ → ℕ
+pair_of a = (a + 1) / 2
+
+-- the axes with an even number are converses of forward ones
+abbrev pub is_converse : ℕ → Bool
+is_converse a = eqb (a % 2) 0
 
 -- every node passes the name test: node() does, and the star where node 0 is no document node, since no other node may be one
 abbrev pub passes_all : Tree → ℕ → Bool

@@ -8,8 +8,11 @@ ghost use Rattle.std.specs.Prelude.{◌≡◌, true, ◌*◌, ◌≤◌, ◌<◌
 ghost use Rattle.model.specs.Sets.{tab, ones, memb, upto, turn, image};
 ghost use Rattle.model.specs.Tree.{tree_of, size_of};
 ghost use Rattle.model.specs.Axes.{following, axis, matches, passes, steps};
+ghost use Rattle.model.specs.Numbers.{axis_number};
 ghost use Rattle.tree.specs.Links.{links};
-ghost use Rattle.steps.specs.Moves.{along, star, forward, passes_all, Linked};
+ghost use Rattle.steps.specs.Moves.{along, star, forward, is_converse, pair_of, passes_all, Linked};
+
+use model::Axis;
 
 // From each node to those whose link it is; by one hop or more where closed is set. One pass: the byte of the link is final
 // before it is read.
@@ -19,13 +22,11 @@ fn gather(link: &[u16], n: usize, closed: bool, from: [u8; 256]) -> [u8; 256]
     ensures { result ≡ tab 256 (image n (along closed (links link.now)) (memb from)) }
 {
     let mut r = [0u8; 256];
-    let mut y = 0;
-    while y < n {
-        let p = model::wide(link[2 * y]);
+    for y in 0..n {
+        let p = usize::from(link[2 * y]);
         if p < y {
             r[y] = sets::byte((from[p] != 0) | (closed & (r[p] != 0)));
         }
-        y += 1;
     }
     r
 }
@@ -38,15 +39,12 @@ fn scatter(link: &[u16], n: usize, closed: bool, from: [u8; 256]) -> [u8; 256]
     ensures { result ≡ tab 256 (image n (turn true (along closed (links link.now))) (memb from)) }
 {
     let mut r = [0u8; 256];
-    let mut i = n;
-    while 0 < i {
-        let y = i - 1;
-        let p = model::wide(link[2 * y]);
+    for y in (0..n).rev() {
+        let p = usize::from(link[2 * y]);
         let sends = (p < y) & ((from[y] != 0) | (closed & (r[y] != 0)));
         if sends {
             r[p] = 1;
         }
-        i = y;
     }
     r
 }
@@ -68,7 +66,7 @@ fn self_image(n: usize, back: bool, from: [u8; 256]) -> [u8; 256]
     ensures { result ≡ tab 256 (image n (turn back eqb) (memb from)) }
 {
     let all = sets::full(n);
-    sets::combined(sets::INTERSECTION, all, from)
+    sets::combined(sets::Operation::Intersection, all, from)
 }
 
 // No hop, one or more.
@@ -78,7 +76,7 @@ fn star_image(link: &[u16], n: usize, back: bool, from: [u8; 256]) -> [u8; 256]
 {
     let a = self_image(n, back, from);
     let b = link_image(link, n, true, back, from);
-    sets::combined(sets::UNION, a, b)
+    sets::combined(sets::Operation::Union, a, b)
 }
 
 // Following, or its converse, preceding: up or stay, along the siblings, down or stay. Three passes.
@@ -93,45 +91,51 @@ fn following_image(tree: &[u16], prev: &[u16], back: bool, from: [u8; 256]) -> [
     star_image(tree, n, false, b)
 }
 
-// A forward axis, by half of its code rounded up, or its converse.
-fn forward_image(tree: &[u16], prev: &[u16], h: usize, back: bool, from: [u8; 256]) -> [u8; 256]
-    requires { Linked tree.now prev.now × (h ≤ 6) }
-    ensures { result
-        ≡ tab 256 (image (size_of tree.now) (turn back (forward (tree_of tree.now) h)) (memb from)) }
+// Whether an axis is the converse of a forward one: the axes with an even number are, a node itself being its own.
+pub fn is_converse(a: Axis) -> bool
+    ensures { result ≡ is_converse (axis_number a) }
 {
-    let n = tree.len() / 2;
-    if h == 0 {
-        return self_image(n, back, from);
-    }
-    if h == 1 {
-        return link_image(tree, n, false, back, from);
-    }
-    if h == 2 {
-        return link_image(prev, n, false, back, from);
-    }
-    if h == 3 {
-        return link_image(tree, n, true, back, from);
-    }
-    if h == 4 {
-        return following_image(tree, prev, back, from);
-    }
-    if h == 5 {
-        return link_image(prev, n, true, back, from);
-    }
-    star_image(tree, n, back, from)
+    matches!(
+        a,
+        Axis::Itself
+            | Axis::Parent
+            | Axis::Left
+            | Axis::Ancestor
+            | Axis::Preceding
+            | Axis::PrecedingSibling
+            | Axis::AncestorOrSelf
+    )
 }
 
-// An axis by its code, or its converse: an even code is the converse of the forward axis beside it.
-fn axis_image(tree: &[u16], prev: &[u16], a: usize, back: bool, from: [u8; 256]) -> [u8; 256]
-    requires { Linked tree.now prev.now × (a ≤ 12) }
+// The forward axis of a pair of converses, or, where the flag is set, its converse.
+fn forward_image(tree: &[u16], prev: &[u16], a: Axis, back: bool, from: [u8; 256]) -> [u8; 256]
+    requires { Linked tree.now prev.now }
     ensures { result
-        ≡ tab 256 (image (size_of tree.now) (turn back (axis (tree_of tree.now) a)) (memb from)) }
+        ≡ tab 256 (image (size_of tree.now) (turn back (forward (tree_of tree.now) (pair_of (axis_number a)))) (memb from)) }
 {
-    let h = (a + 1) / 2;
-    if a % 2 == 0 {
-        return forward_image(tree, prev, h, !back, from);
+    let n = tree.len() / 2;
+    match a {
+        Axis::Itself => self_image(n, back, from),
+        Axis::Child | Axis::Parent => link_image(tree, n, false, back, from),
+        Axis::Right | Axis::Left => link_image(prev, n, false, back, from),
+        Axis::Descendant | Axis::Ancestor => link_image(tree, n, true, back, from),
+        Axis::Following | Axis::Preceding => following_image(tree, prev, back, from),
+        Axis::FollowingSibling | Axis::PrecedingSibling => link_image(prev, n, true, back, from),
+        Axis::DescendantOrSelf | Axis::AncestorOrSelf => star_image(tree, n, back, from),
     }
-    forward_image(tree, prev, h, back, from)
+}
+
+// An axis, or its converse.
+fn axis_image(tree: &[u16], prev: &[u16], a: Axis, back: bool, from: [u8; 256]) -> [u8; 256]
+    requires { Linked tree.now prev.now }
+    ensures { result
+        ≡ tab 256 (image (size_of tree.now) (turn back (axis (tree_of tree.now) (axis_number a))) (memb from)) }
+{
+    let turned = is_converse(a);
+    if turned {
+        return forward_image(tree, prev, a, !back, from);
+    }
+    forward_image(tree, prev, a, back, from)
 }
 
 // Whether every node passes the name test: node() in each tree, the star where node 0 is no document node.
@@ -157,27 +161,25 @@ fn named(tree: &[u16], name: usize) -> [u8; 256]
 {
     let n = tree.len() / 2;
     let mut r = [0u8; 256];
-    let mut y = 0;
-    while y < n {
+    for y in 0..n {
         r[y] = sets::byte(matches_tag(name, tree::tag(tree, y)));
-        y += 1;
     }
     r
 }
 
-// The image under a step, by the code of its axis and its name test, or under the step's converse: forwards the test cuts the
+// The image under a step, by its axis and its name test, or under the step's converse: forwards the test cuts the
 // image, backwards the set. Where every node passes, nothing is cut.
 fn step_image(
     tree: &[u16],
     prev: &[u16],
-    a: usize,
+    a: Axis,
     name: usize,
     back: bool,
     from: [u8; 256],
 ) -> [u8; 256]
-    requires { Linked tree.now prev.now × (a ≤ 12) }
+    requires { Linked tree.now prev.now }
     ensures { result
-        ≡ tab 256 (image (size_of tree.now) (turn back (steps (tree_of tree.now) a name)) (memb from)) }
+        ≡ tab 256 (image (size_of tree.now) (turn back (steps (tree_of tree.now) (axis_number a) name)) (memb from)) }
 {
     let all = passes_all(tree, name);
     if all {
@@ -185,26 +187,26 @@ fn step_image(
     }
     let s = named(tree, name);
     if back {
-        let m = sets::combined(sets::INTERSECTION, from, s);
+        let m = sets::combined(sets::Operation::Intersection, from, s);
         return axis_image(tree, prev, a, true, m);
     }
     let m = axis_image(tree, prev, a, false, from);
-    sets::combined(sets::INTERSECTION, m, s)
+    sets::combined(sets::Operation::Intersection, m, s)
 }
 
 // The image under a step or its converse, and how many nodes it has.
 pub fn step(
     tree: &[u16],
     prev: &[u16],
-    a: usize,
+    a: Axis,
     name: usize,
     back: bool,
     from: [u8; 256],
     count: &mut usize,
 ) -> [u8; 256]
-    requires { Linked tree.now prev.now × (a ≤ 12) }
+    requires { Linked tree.now prev.now }
     ensures { (result
-        ≡ tab 256 (image (size_of tree.now) (turn back (steps (tree_of tree.now) a name)) (memb from)))
+        ≡ tab 256 (image (size_of tree.now) (turn back (steps (tree_of tree.now) (axis_number a) name)) (memb from)))
         × (count.new ≡ ones result) }
 {
     let r = step_image(tree, prev, a, name, back, from);

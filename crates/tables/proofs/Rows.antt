@@ -1,6 +1,6 @@
 -- Laws of rows of four words: read, written, joined, occupied; sets of four words.
 use Prim.Native.Nat.{ℕ, zero, suc, ◌+◌, ◌*◌, ◌/◌, ◌%◌, ◌^◌, ◌≤◌, ◌<◌}
-use native.Mathlib.Nat.{add-zero, zero-add}
+use native.Mathlib.Nat.{zero-add}
 use native.Mathlib.Omega.{arith}
 use mathlib.Core.Path.{◌≡◌, refl, sym, ap, ap₂, ◌∙◌}
 use mathlib.Core.Logic.{⊎_elim}
@@ -9,6 +9,10 @@ use mathlib.Core.List.{List, [], ◌∷◌}
 use lib.ListN.{length, get_or, set, replicate, length-set, length-replicate, get_or-replicate}
 use lib.Seq.{get_or-set_same, get_or-set_other}
 use lib.Dec.{eqb, ltb}
+use borrow.Rule.Slice.PartMut.{put_mid}
+use borrow.Author.Rules.{rules}
+use Rattle.std.proofs.lemmas.List.{places}
+use Rattle.std.proofs.lemmas.Grind.{common_steps}
 use borrow.Author.Tests.{eqb-true, eqb-false, eq-eqb, ne_eqb, lt-ltb, le-ltb}
 use Rattle.model.specs.Sets.{any, upto}
 use Rattle.model.proofs.Booleans.{Seen, yes!, no!, seen, lt_or_le}
@@ -63,44 +67,29 @@ unfolding combine
 join_word r w z j i v e p =
     p ∙ word_cong 64 _ _ (λ k l. ap₂ (λ (a b : Bool). a || b) (sym (has_bit_at r j k l)) (ap (λ (q : ℕ). test_bit (get_or w q 0) k) e ∙ bit_in w z j k l))
 
--- four words are written
+-- a part of a table is written
 
-abbrev pub four : List ℕ → List ℕ → ℕ → List ℕ
-four w r i = set (set (set (set w i (get_or r 0 0)) (i + 1) (get_or r 1 0)) (i + 2) (get_or r 2 0)) (i + 3) (get_or r 3 0)
+module _ (w r : List ℕ) (a k : ℕ) (h : a + k ≤ length w) (e : length r ≡ k) where
+  put_size : length (put_mid a k w r) ≡ length w
+  put_size = grind (arith, common_steps)
 
-module _ (w r : List ℕ) (i : ℕ) where
-  four_other : (k : ℕ) → (i ≤ k → k < i + 4 → ⊥) → get_or (four w r i) k 0 ≡ get_or w k 0
-  four_other k g =
-      get_or-set_other (set (set (set w i (get_or r 0 0)) (i + 1) (get_or r 1 0)) (i + 2) (get_or r 2 0)) (i + 3) k (get_or r 3 0) 0 (λ e. g (omega arith) (omega arith))
-      ∙ get_or-set_other (set (set w i (get_or r 0 0)) (i + 1) (get_or r 1 0)) (i + 2) k (get_or r 2 0) 0 (λ e. g (omega arith) (omega arith))
-      ∙ get_or-set_other (set w i (get_or r 0 0)) (i + 1) k (get_or r 1 0) 0 (λ e. g (omega arith) (omega arith))
-      ∙ get_or-set_other w i k (get_or r 0 0) 0 (λ e. g (omega arith) (omega arith))
+  put_below : (i : ℕ) → i < a → get_or (put_mid a k w r) i 0 ≡ get_or w i 0
+  put_below i l = search (rules, places)
 
-  four_at : i + 4 ≤ length w → (j : ℕ) → j < 4 → get_or (four w r i) (i + j) 0 ≡ get_or r j 0
-  four_at h zero l =
-      get_or-set_other (set (set (set w i (get_or r 0 0)) (i + 1) (get_or r 1 0)) (i + 2) (get_or r 2 0)) (i + 3) (i + 0) (get_or r 3 0) 0 (λ e. omega arith)
-      ∙ get_or-set_other (set (set w i (get_or r 0 0)) (i + 1) (get_or r 1 0)) (i + 2) (i + 0) (get_or r 2 0) 0 (λ e. omega arith)
-      ∙ get_or-set_other (set w i (get_or r 0 0)) (i + 1) (i + 0) (get_or r 1 0) 0 (λ e. omega arith)
-      ∙ ap (λ (k : ℕ). get_or (set w i (get_or r 0 0)) k 0) (add-zero i) ∙ get_or-set_same w i (get_or r 0 0) 0 (omega arith)
-  four_at h (suc zero) l =
-      get_or-set_other (set (set (set w i (get_or r 0 0)) (i + 1) (get_or r 1 0)) (i + 2) (get_or r 2 0)) (i + 3) (i + 1) (get_or r 3 0) 0 (λ e. omega arith)
-      ∙ get_or-set_other (set (set w i (get_or r 0 0)) (i + 1) (get_or r 1 0)) (i + 2) (i + 1) (get_or r 2 0) 0 (λ e. omega arith)
-      ∙ get_or-set_same (set w i (get_or r 0 0)) (i + 1) (get_or r 1 0) 0 (simp length-set (omega arith))
-  four_at h (suc (suc zero)) l =
-      get_or-set_other (set (set (set w i (get_or r 0 0)) (i + 1) (get_or r 1 0)) (i + 2) (get_or r 2 0)) (i + 3) (i + 2) (get_or r 3 0) 0 (λ e. omega arith)
-      ∙ get_or-set_same (set (set w i (get_or r 0 0)) (i + 1) (get_or r 1 0)) (i + 2) (get_or r 2 0) 0 (simp length-set (omega arith))
-  four_at h (suc (suc (suc zero))) l =
-      get_or-set_same (set (set (set w i (get_or r 0 0)) (i + 1) (get_or r 1 0)) (i + 2) (get_or r 2 0)) (i + 3) (get_or r 3 0) 0 (simp length-set (omega arith))
-  four_at h (suc (suc (suc (suc j)))) l = absurd (omega arith)
+  put_in : (i : ℕ) → i < k → get_or (put_mid a k w r) (a + i) 0 ≡ get_or r i 0
+  put_in i l = search (rules, places)
 
-pub put_row : (w r : List ℕ) (x : ℕ) → 4 * x + 4 ≤ length w → RowBecomes x (has_bit r) w (four w r (4 * x))
+  put_behind : (i : ℕ) → a + k ≤ i → get_or (put_mid a k w r) i 0 ≡ get_or w i 0
+  put_behind i l = search (rules, places)
+
+pub put_row : (w r p : List ℕ) (x k : ℕ) → 4 * x + 4 ≤ length w → length r ≡ 4 → p ≡ r → k ≡ 4 → RowBecomes x (has_bit r) w (put_mid (4 * x) k w p)
 unfolding has_bit
-put_row w r x h = record {
-  size = simp length-set;
-  bits = λ y l. bit_at (four w r (4 * x)) x y ∙ ap (λ (v : ℕ). test_bit v (y % 64)) (four_at w r (4 * x) h (y / 64) (omega arith));
-  before = λ i l. four_other w r (4 * x) i (λ a b. omega arith);
-  behind = λ i l. four_other w r (4 * x) i (λ a b. omega arith);
-}
+put_row w r p x k h e q z = rw (q, z) (record {
+  size = put_size w r (4 * x) 4 h e;
+  bits = λ y l. bit_at (put_mid (4 * x) 4 w r) x y ∙ ap (λ (v : ℕ). test_bit v (y % 64)) (put_in w r (4 * x) 4 h e (y / 64) (omega arith));
+  before = λ i l. put_below w r (4 * x) 4 h e i l;
+  behind = λ i l. put_behind w r (4 * x) 4 h e i l;
+})
 
 -- a row that stays, and one that is cleared
 

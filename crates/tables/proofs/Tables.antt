@@ -3,10 +3,13 @@ use Prim.Native.Nat.{ℕ, ◌+◌, ◌*◌, ◌/◌, ◌%◌, ◌≤◌, ◌<◌
 use native.Mathlib.Omega.{arith}
 use mathlib.Core.Path.{◌≡◌, refl, sym, ap, ap₂, ◌∙◌, subst}
 use mathlib.Core.Bool.{Bool, true, false, ◌&&◌}
-use mathlib.Core.List.{List}
-use lib.ListN.{length, get_or, set, length-set}
+use mathlib.Core.List.{List, ◌++◌}
+use lib.ListN.{length, get_or, set, take, drop, length-set}
 use lib.Seq.{get_or-set_same, get_or-set_other}
 use lib.Dec.{eqb}
+use borrow.Author.Rules.{rules}
+use Rattle.std.proofs.lemmas.List.{places}
+use Rattle.std.proofs.lemmas.Grind.{common_steps}
 use borrow.Author.Tests.{eqb-true, eqb-false, eq-eqb, ne_eqb}
 use Rattle.model.proofs.Booleans.{Seen, yes!, no!, seen}
 use Rattle.model.proofs.Exists.{any_cong}
@@ -50,10 +53,7 @@ front_end F i n R w o f a b h = record {
   rest = λ k l. f.rest k (omega arith);
 }
 
--- the words of a copy, of two tables combined and of the pairs that end in a set
-
-abbrev pub copied : List ℕ → ℕ → ℕ
-copied from k = get_or from k 0
+-- a copy, and the words of two tables combined and of the pairs that end in a set
 
 unfoldable pub combined_word : ℕ → Bool → List ℕ → List ℕ → ℕ → ℕ
 combined_word op turned kept w k = word 64 (joined_bits op turned (get_or kept k 0) (get_or w k 0))
@@ -61,8 +61,15 @@ combined_word op turned kept w k = word 64 (joined_bits op turned (get_or kept k
 unfoldable pub filtered_word : List ℕ → List ℕ → ℕ → ℕ
 filtered_word s w k = word 64 (merged_bits 1 (get_or w k 0) (get_or s (k % 4) 0))
 
-pub copy_end : (from : List ℕ) (i n : ℕ) (w o : List ℕ) → Front (copied from) i w o → i ≤ 4 * n → 4 * n ≤ i → Becomes n (bit_relation from) w o
-copy_end from i n w o f a b = front_end (copied from) i n (bit_relation from) w o f a b (λ x y l m. sym (bit_at from x y))
+pub copy_of : (from w p : List ℕ) (n : ℕ) → 4 * n ≤ length w → 4 * n ≤ length from → p ≡ take (4 * n) from → Becomes n (bit_relation from) w (p ++ drop (4 * n) w)
+copy_of from w p n a b e = rw e (record {
+  size = grind (arith, common_steps);
+  bits = λ x y l m. bit_at (take (4 * n) from ++ drop (4 * n) w) x y ∙ ap (λ (v : ℕ). test_bit v (y % 64)) (front (4 * x + y / 64) (omega arith)) ∙ sym (bit_at from x y);
+  rest = λ i l. search (rules, places);
+})
+  where
+    front : (i : ℕ) → i < 4 * n → get_or (take (4 * n) from ++ drop (4 * n) w) i 0 ≡ get_or from i 0
+    front i l = search (rules, places)
 
 module _ (op : ℕ) (turned : Bool) (kept : List ℕ) (i : ℕ) (w o : List ℕ) (f : Front (combined_word op turned kept w) i w o) where
   pub combine_more : (v : ℕ) → v ≡ word 64 (joined_bits op turned (get_or kept i 0) (get_or o i 0)) → i < length w → Front (combined_word op turned kept w) (i + 1) w (set o i v)

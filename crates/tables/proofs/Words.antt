@@ -11,26 +11,26 @@ use borrow.Author.Tests.{lt-ltb, le-ltb}
 use Rattle.model.specs.Sets.{bit, upto}
 use Rattle.model.proofs.Booleans.{lt_or_le}
 use Rattle.sets.specs.NodeSets.{combine}
-use Rattle.sets.proofs.Images.{combine_else}
 use Rattle.bits.specs.Words.{test_bit, word}
 use Rattle.bits.proofs.Words.{bit_lt, word_cong, word_or, word_and, word_not, word_none, word_one, word_bits, word_below}
 use Rattle.tables.specs.Tables.{merged_bits, only_if, full_from}
 
 -- two words combined
 
-module _ (op a b : ℕ) (fa : a < 2 ^ 64) (fb : b < 2 ^ 64) where
-  pub merge_or : op ≡ 0 → bit_or a b ≡ word 64 (merged_bits op a b)
+module _ (a b : ℕ) (fa : a < 2 ^ 64) (fb : b < 2 ^ 64) where
+  pub merge_or : bit_or a b ≡ word 64 (merged_bits 0 a b)
   unfolding combine
-  merge_or z = ap₂ bit_or (sym (word_bits 64 a fa)) (sym (word_bits 64 b fb)) ∙ word_or 64 (test_bit a) (test_bit b) ∙ word_cong 64 _ _ (λ k l. rw z)
+  merge_or = ap₂ bit_or (sym (word_bits 64 a fa)) (sym (word_bits 64 b fb)) ∙ word_or 64 (test_bit a) (test_bit b)
 
-  pub merge_and : op ≡ 1 → bit_and a b ≡ word 64 (merged_bits op a b)
+  pub merge_and : bit_and a b ≡ word 64 (merged_bits 1 a b)
   unfolding combine
-  merge_and z = ap₂ bit_and (sym (word_bits 64 a fa)) (sym (word_bits 64 b fb)) ∙ word_and 64 (test_bit a) (test_bit b) ∙ word_cong 64 _ _ (λ k l. rw z)
+  merge_and = ap₂ bit_and (sym (word_bits 64 a fa)) (sym (word_bits 64 b fb)) ∙ word_and 64 (test_bit a) (test_bit b)
 
-  pub merge_not : (op ≡ 0 → ⊥) → (op ≡ 1 → ⊥) → bit_and a (18446744073709551615 - b) ≡ word 64 (merged_bits op a b)
-  merge_not y z =
+  pub merge_not : bit_and a (18446744073709551615 - b) ≡ word 64 (merged_bits 2 a b)
+  unfolding combine
+  merge_not =
       ap₂ bit_and (sym (word_bits 64 a fa)) (ap (λ (x : ℕ). 18446744073709551615 - x) (sym (word_bits 64 b fb)) ∙ word_not 64 (test_bit b))
-      ∙ word_and 64 (test_bit a) (λ k. not (test_bit b k)) ∙ word_cong 64 _ _ (λ k l. combine_else op (test_bit a k) (test_bit b k) y z)
+      ∙ word_and 64 (test_bit a) (λ k. not (test_bit b k))
 
 -- one bit, and the lowest bits
 
@@ -46,13 +46,15 @@ module _ (n base : ℕ) where
   unfolding upto
   full_word m h e = sym (word_cong 64 (full_from n base) (λ i. ltb i m) (λ i l. and-true (ltb (base + i) n) ∙ e i l) ∙ word_below 64 m h)
 
-  pub full_none : n ≤ base → 0 ≡ word 64 (full_from n base)
-  full_none h = full_word 0 (omega arith) (λ i l. le-ltb (base + i) n (omega arith) ∙ sym (le-ltb i 0 (omega arith)))
+  -- with how many of them are below n, at most 64
+  module _ (m : ℕ) (d : m ≡ n - base) where
+    alike : (i : ℕ) → i < 64 → ltb (base + i) n ≡ ltb i m
+    alike i l = ⊎_elim (λ k. lt-ltb (base + i) n (omega arith) ∙ sym (lt-ltb i m k)) (λ k. le-ltb (base + i) n (omega arith) ∙ sym (le-ltb i m k)) (lt_or_le i m)
 
-  pub full_all : base < n → 64 ≤ n - base → 18446744073709551615 ≡ word 64 (full_from n base)
-  full_all h g = full_word 64 (omega arith) (λ i l. lt-ltb (base + i) n (omega arith) ∙ sym (lt-ltb i 64 l))
+    pub full_all : 64 ≤ m → 18446744073709551615 ≡ word 64 (full_from n base)
+    full_all h = full_word 64 (omega arith) (λ i l. alike i l ∙ lt-ltb i m (omega arith) ∙ sym (lt-ltb i 64 l))
 
-  pub full_some : base < n → n - base < 64 → (1 * 2 ^ (n - base)) % 2 ^ 64 - 1 ≡ word 64 (full_from n base)
-  full_some h g =
-      ap (λ (v : ℕ). v - 1) (shl_exact {a = 1} 1 (n - base) 64 (omega arith) (omega arith) ∙ (let e : 1 * 2 ^ (n - base) ≡ 2 ^ (n - base) = omega arith in e))
-      ∙ full_word (n - base) (omega arith) (λ i l. ⊎_elim (λ m. lt-ltb (base + i) n (omega arith) ∙ sym (lt-ltb i (n - base) m)) (λ m. le-ltb (base + i) n (omega arith) ∙ sym (le-ltb i (n - base) m)) (lt_or_le i (n - base)))
+    pub full_some : m < 64 → (1 * 2 ^ m) % 2 ^ 64 - 1 ≡ word 64 (full_from n base)
+    full_some h =
+        ap (λ (v : ℕ). v - 1) (shl_exact {a = 1} 1 m 64 (omega arith) (omega arith) ∙ (let e : 1 * 2 ^ m ≡ 2 ^ m = omega arith in e))
+        ∙ full_word m (omega arith) alike

@@ -9,12 +9,10 @@ pub fn join_diagonal(acc: &mut [u64], n: usize)
     requires { (n ≤ 256) × (4 * n ≤ length acc.old) }
     ensures { Becomes n (reflexive (bit_relation acc.old)) acc.old acc.new }
 {
-    let mut x = 0;
-    while x < n {
+    for x in 0..n {
         let own = crate::set::single(x);
         let next = crate::row::join(own, acc, x);
         crate::row::put(acc, x, next);
-        x += 1;
     }
 }
 
@@ -38,9 +36,7 @@ pub fn join_through(acc: &mut [u64], n: usize, z: usize)
     requires { (n ≤ 256) × ((4 * n ≤ length acc.old) × (z < n)) }
     ensures { Becomes n (through z (bit_relation acc.old)) acc.old acc.new }
 {
-    let mut x = 0;
-    while x < n {
+    for x in 0..n {
         join_row(acc, x, z);
-        x += 1;
     }
 }

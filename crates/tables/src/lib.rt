@@ -10,6 +10,7 @@ mod word;
 
 ghost use Rattle.std.specs.Prelude.{◌*◌, ◌≤◌, ◌<◌, ◌≡◌, length};
 ghost use Rattle.model.specs.Sets.{upto, closed};
+ghost use Rattle.sets.specs.NodeSets.{operation_number};
 ghost use Rattle.bits.specs.Words.{words, has_bit};
 ghost use Rattle.bits.specs.BitTables.{bit_relation};
 ghost use Rattle.bits.specs.Rows.{Becomes, diagonal, composed, starting_in, ending_in, from_node, has_pair};
@@ -20,24 +21,18 @@ pub fn copy(to: &mut [u64], from: &[u64], n: usize)
     requires { (n ≤ 256) × ((4 * n ≤ length to.old) × (4 * n ≤ length from.now)) }
     ensures { Becomes n (bit_relation from.now) to.old to.new }
 {
-    let mut i = 0;
-    while i < 4 * n {
-        to[i] = from[i];
-        i += 1;
-    }
+    to[..4 * n].copy_from_slice(&from[..4 * n]);
 }
 
 // A kept table and the one at hand combined: the kept one is the first operand, or the second where the flag is set. One pass over
 // the words.
-pub fn combine(acc: &mut [u64], kept: &[u64], n: usize, op: u8, turned: bool)
+pub fn combine(acc: &mut [u64], kept: &[u64], n: usize, op: sets::Operation, turned: bool)
     requires { (n ≤ 256) × ((4 * n ≤ length acc.old) × (4 * n ≤ length kept.now)) }
-    ensures { Becomes n (joined op turned (bit_relation kept.now) (bit_relation acc.old)) acc.old acc.new }
+    ensures { Becomes n (joined (operation_number op) turned (bit_relation kept.now) (bit_relation acc.old)) acc.old acc.new }
 {
-    let mut i = 0;
-    while i < 4 * n {
+    for i in 0..4 * n {
         let v = word::join(op, turned, kept[i], acc[i]);
         acc[i] = v;
-        i += 1;
     }
 }
 
@@ -47,11 +42,9 @@ pub fn compose(acc: &mut [u64], kept: &[u64], n: usize)
     requires { (n ≤ 256) × ((4 * n ≤ length acc.old) × (4 * n ≤ length kept.now)) }
     ensures { Becomes n (composed n (bit_relation acc.old) (bit_relation kept.now)) acc.old acc.new }
 {
-    let mut x = 0;
-    while x < n {
+    for x in 0..n {
         let r = product::row_of(acc, kept, n, x);
         row::put(acc, x, r);
-        x += 1;
     }
 }
 
@@ -63,10 +56,8 @@ pub fn close(acc: &mut [u64], n: usize)
     ensures { Becomes n (closed n (bit_relation acc.old)) acc.old acc.new }
 {
     closure::join_diagonal(acc, n);
-    let mut z = 0;
-    while z < n {
+    for z in 0..n {
         closure::join_through(acc, n, z);
-        z += 1;
     }
 }
 
@@ -75,11 +66,9 @@ pub fn filter(acc: &mut [u64], n: usize, s: [u64; 4])
     requires { (n ≤ 256) × ((4 * n ≤ length acc.old) × (length s ≡ 4)) }
     ensures { Becomes n (ending_in (has_bit s) (bit_relation acc.old)) acc.old acc.new }
 {
-    let mut i = 0;
-    while i < 4 * n {
-        let v = word::merge(sets::INTERSECTION, acc[i], s[i % 4]);
+    for i in 0..4 * n {
+        let v = word::merge(sets::Operation::Intersection, acc[i], s[i % 4]);
         acc[i] = v;
-        i += 1;
     }
 }
 
@@ -88,10 +77,8 @@ pub fn keep(acc: &mut [u64], n: usize, s: [u64; 4])
     requires { (n ≤ 256) × ((4 * n ≤ length acc.old) × (length s ≡ 4)) }
     ensures { Becomes n (starting_in (has_bit s) (bit_relation acc.old)) acc.old acc.new }
 {
-    let mut x = 0;
-    while x < n {
+    for x in 0..n {
         row::keep_if(acc, x, bits::test(s[x / 64], x % 64));
-        x += 1;
     }
 }
 
@@ -101,10 +88,8 @@ pub fn spread(acc: &mut [u64], n: usize, z: usize)
     ensures { Becomes n (from_node z (bit_relation acc.old)) acc.old acc.new }
 {
     let r = row::get(acc, z);
-    let mut x = 0;
-    while x < n {
+    for x in 0..n {
         row::put(acc, x, r);
-        x += 1;
     }
 }
 
@@ -113,11 +98,9 @@ pub fn diagonal(acc: &mut [u64], n: usize)
     requires { (n ≤ 256) × (4 * n ≤ length acc.old) }
     ensures { Becomes n diagonal acc.old acc.new }
 {
-    let mut x = 0;
-    while x < n {
+    for x in 0..n {
         let r = set::single(x);
         row::put(acc, x, r);
-        x += 1;
     }
 }
 
@@ -127,11 +110,13 @@ pub fn starts(acc: &[u64], n: usize) -> [u64; 4]
     ensures { result ≡ words 4 (upto n (has_pair (bit_relation acc.now))) }
 {
     let mut r = [0u64; 4];
-    let mut x = 0;
-    while x < n {
+    for x in 0..n {
         let found = row::is_occupied(acc, x);
-        r[x / 64] = word::merge(sets::UNION, r[x / 64], word::bit_if(found, x % 64));
-        x += 1;
+        r[x / 64] = word::merge(
+            sets::Operation::Union,
+            r[x / 64],
+            word::bit_if(found, x % 64),
+        );
     }
     r
 }

@@ -31,11 +31,9 @@ pub fn row_of(acc: &[u64], kept: &[u64], n: usize, x: usize) -> [u64; 4]
     ensures { result ≡ words 4 (composed n (bit_relation acc.now) (bit_relation kept.now) x) }
 {
     let mut r = [0u64; 4];
-    let mut j = 0;
-    while j < 4 {
+    for j in 0..4 {
         let next = join_word(r, acc[4 * x + j], 64 * j, kept, n);
         r = next;
-        j += 1;
     }
     r
 }

@@ -19,11 +19,7 @@ pub fn put(w: &mut [u64], x: usize, r: [u64; 4])
     requires { (4 * x + 4 ≤ length w.old) × (length r ≡ 4) }
     ensures { RowBecomes x (has_bit r) w.old w.new }
 {
-    let at = 4 * x;
-    w[at] = r[0];
-    w[at + 1] = r[1];
-    w[at + 2] = r[2];
-    w[at + 3] = r[3];
+    w[4 * x..4 * x + 4].copy_from_slice(&r);
 }
 
 // Row x stays if b, else it is cleared.
@@ -43,10 +39,10 @@ pub fn join(r: [u64; 4], w: &[u64], z: usize) -> [u64; 4]
     ensures { result ≡ words 4 (joined_row r w.now z) }
 {
     let at = 4 * z;
-    let a = crate::word::merge(sets::UNION, r[0], w[at]);
-    let b = crate::word::merge(sets::UNION, r[1], w[at + 1]);
-    let c = crate::word::merge(sets::UNION, r[2], w[at + 2]);
-    let d = crate::word::merge(sets::UNION, r[3], w[at + 3]);
+    let a = crate::word::merge(sets::Operation::Union, r[0], w[at]);
+    let b = crate::word::merge(sets::Operation::Union, r[1], w[at + 1]);
+    let c = crate::word::merge(sets::Operation::Union, r[2], w[at + 2]);
+    let d = crate::word::merge(sets::Operation::Union, r[3], w[at + 3]);
     [a, b, c, d]
 }
 

@@ -1,7 +1,7 @@
 // Node sets as a row of four words. Each function but the last is a fixed number of operations on words.
 ghost use Rattle.std.specs.Prelude.{◌≤◌, ◌<◌, ◌≡◌, true, length};
 ghost use Rattle.model.specs.Sets.{memb, upto};
-ghost use Rattle.sets.specs.NodeSets.{always, only};
+ghost use Rattle.sets.specs.NodeSets.{always, only, operation_number};
 ghost use Rattle.bits.specs.Words.{words};
 ghost use Rattle.tables.specs.Tables.{merged_sets};
 
@@ -28,9 +28,9 @@ pub fn single(x: usize) -> [u64; 4]
 }
 
 // Two sets combined, node by node.
-pub fn merged(op: u8, a: [u64; 4], b: [u64; 4]) -> [u64; 4]
+pub fn merged(op: sets::Operation, a: [u64; 4], b: [u64; 4]) -> [u64; 4]
     requires { (length a ≡ 4) × (length b ≡ 4) }
-    ensures { result ≡ words 4 (merged_sets op a b) }
+    ensures { result ≡ words 4 (merged_sets (operation_number op) a b) }
 {
     let p = crate::word::merge(op, a[0], b[0]);
     let q = crate::word::merge(op, a[1], b[1]);
@@ -45,11 +45,13 @@ pub fn of_bytes(s: [u8; 256], n: usize) -> [u64; 4]
     ensures { result ≡ words 4 (upto n (memb s)) }
 {
     let mut r = [0u64; 4];
-    let mut x = 0;
-    while x < n {
+    for x in 0..n {
         let found = s[x] != 0;
-        r[x / 64] = crate::word::merge(sets::UNION, r[x / 64], crate::word::bit_if(found, x % 64));
-        x += 1;
+        r[x / 64] = crate::word::merge(
+            sets::Operation::Union,
+            r[x / 64],
+            crate::word::bit_if(found, x % 64),
+        );
     }
     r
 }

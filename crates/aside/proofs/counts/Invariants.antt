@@ -1,9 +1,5 @@
-use Prim.Native.Nat.{◌-◌, ◌≤◌}
-use Rattle.aside.specs.Aside.{CountsTo}
+use Rattle.aside.specs.Aside.{aside_at}
 use Rattle.aside.proofs.counts.Given as goal
 
-abbrev pub invariant-loop-e : goal.invariant-loop-e
-invariant-loop-e l = (l.e ≤ l.n) × CountsTo l.query l.e l.kept
-
-abbrev pub decreases-loop-e : goal.decreases-loop-e
-decreases-loop-e l = l.n - l.e
+abbrev pub ghost-number_entries : goal.ghost-number_entries
+ghost-number_entries a = aside_at a.query.now

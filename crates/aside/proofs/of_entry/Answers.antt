@@ -1,24 +1,18 @@
-use borrow.Author.Rules.{rules}
-use Rattle.aside.proofs.Entries.{did_none, left_index, left_small, did_one, did_two, did_larger, right_index}
+use mathlib.Core.Path.{sym}
+use Rattle.aside.proofs.Entries.{did_none, left_small, did_one, did_two, did_larger}
 use Rattle.aside.proofs.of_entry.Goals as goal
 
-pub returns-then-not-some : goal.returns-then-not-some
-returns-then-not-some c = search (did_none, rules)
+pub returns-in-None : goal.returns-in-None
+returns-in-None c = did_none c.requires c.in-None.ensures
 
-pub bounds-kept-i : goal.bounds-kept-i
-bounds-kept-i c = search (left_index, rules)
-
-pub returns-then-not-two : goal.returns-then-not-two
-returns-then-not-two c = search (did_one, rules)
-
-pub bounds-kept-j : goal.bounds-kept-j
-bounds-kept-j c = search (right_index, rules)
+pub returns-in-One : goal.returns-in-One
+returns-in-One c = did_one c.requires c.in-One.ensures
 
 pub in_turn-requires : goal.in_turn-requires
-in_turn-requires c = search (left_small, rules)
+in_turn-requires c = left_small c.requires c.in-Two.ensures
 
 pub returns-then-tables : goal.returns-then-tables
-returns-then-tables c = search (did_two, rules)
+returns-then-tables c = did_two c.requires c.in-Two.ensures c.kind_of-kind.ensures c.entry_at.ensures.0 _ c.in_turn.ensures (sym c.if-tables.ensures)
 
-pub returns : goal.returns
-returns c = search (did_larger, rules)
+pub returns-else-tables : goal.returns-else-tables
+returns-else-tables c = did_larger c.requires c.in-Two.ensures c.kind_of-kind.ensures c.entry_at.ensures.0 _ c.max.ensures (sym c.if-tables.ensures)

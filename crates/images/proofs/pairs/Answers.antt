@@ -1,14 +1,11 @@
-use Rattle.images.proofs.Tables.{pairs_over_lem}
+use mathlib.Core.Path.{refl}
+use Rattle.model.specs.Refusals.{reply}
 use Rattle.checks.proofs.Accepted.{pairs_accepted}
-use Rattle.model.proofs.Refusals.{written_not}
-use borrow.Author.Rules.{rules}
+use Rattle.images.proofs.Tables.{pairs_made}
 use Rattle.images.proofs.pairs.Goals as goal
 
-pub returns-then-v-ne0 : goal.returns-then-v-ne0
-returns-then-v-ne0 c = search (written_not, rules)
-
 pub pairs_into-requires : goal.pairs_into-requires
-pairs_into-requires c = pairs_accepted _ _ _ _ _ _ c.check_pairs-v.ensures c.if-v-ne0.false
+pairs_into-requires c = pairs_accepted _ _ _ _ _ (reply 0 0) c.in_ok-check_pairs.ensures refl
 
 pub returns : goal.returns
-returns c = search (pairs_over_lem, rules)
+returns c = pairs_made _ _ _ _ _ _ c.in_ok-check_pairs.ensures c.pairs_into.ensures

@@ -1,10 +1,6 @@
-use borrow.Author.Rules.{rules}
-use Rattle.model.proofs.Refusals.{stop_all, pass_all}
+use Rattle.model.proofs.Refusals.{pass_ok}
 use Rattle.index.proofs.Verdicts.{room_numbered}
 use Rattle.index.proofs.check_buffers.Goals as goal
 
-pub returns-then-v-ne0 : goal.returns-then-v-ne0
-returns-then-v-ne0 c = search (stop_all, rules)
-
 pub returns : goal.returns
-returns c = search (pass_all, room_numbered, rules)
+returns c = pass_ok _ _ _ c.check_room-2.ensures c.in_ok-check_room.ensures (room_numbered _ _)

@@ -4,10 +4,10 @@ use borrow.Author.Rules.{rules}
 use Rattle.job.proofs.party_of.Goals as goal
 
 pub number_at-requires : goal.number_at-requires
-number_at-requires c = omega (arith, party_fits _ _ _ c.requires c.if-magic-eq20565.true)
+number_at-requires c = omega (arith, party_fits _ _ _ c.requires c.if-magic-eq-OWNED.true)
 
-pub returns-then-magic-eq20565 : goal.returns-then-magic-eq20565
-returns-then-magic-eq20565 c = search (party_new, rules)
+pub returns-then-magic-eq-OWNED : goal.returns-then-magic-eq-OWNED
+returns-then-magic-eq-OWNED c = search (party_new, rules)
 
-pub returns : goal.returns
-returns c = search (party_old, rules)
+pub returns-else-magic-eq-OWNED : goal.returns-else-magic-eq-OWNED
+returns-else-magic-eq-OWNED c = search (party_old, rules)

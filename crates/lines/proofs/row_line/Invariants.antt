@@ -1,12 +1,8 @@
 -- The loop keeps what is left of the line.
 use Rattle.lines.proofs.Writing.{Writing}
 use Rattle.lines.specs.Lines.{row_line}
-use lib.ListN.{length, drop}
-use Prim.Native.Nat.{◌-◌, ◌≤◌}
+use lib.ListN.{drop}
 use Rattle.lines.proofs.row_line.Given as goal
 
 abbrev pub invariant-loop-i : goal.invariant-loop-i
-invariant-loop-i l = (l.i ≤ length l.row) × Writing (row_line l.row) l.at l.initial.out (row_line (drop l.i l.row)) l.next l.out
-
-abbrev pub decreases-loop-i : goal.decreases-loop-i
-decreases-loop-i l = length l.row - l.i
+invariant-loop-i l = Writing (row_line l.row) l.at l.initial.out (row_line (drop l.i l.row)) l.next l.out

@@ -1,12 +1,9 @@
--- The loop keeps the lines that are left.
+-- The loop keeps the rows that are left, and their lines.
 use Rattle.lines.proofs.Writing.{Writing}
 use Rattle.lines.specs.Lines.{row_lines}
-use lib.ListN.{length, drop}
-use Prim.Native.Nat.{◌+◌, ◌*◌, ◌≤◌}
+use lib.ListN.{length}
+use Prim.Native.Nat.{◌-◌, ◌*◌, ◌≤◌}
 use Rattle.lines.proofs.row_lines.Given as goal
 
-abbrev pub invariant-loop-left : goal.invariant-loop-left
-invariant-loop-left l = (l.from + l.left * l.k ≤ length l.rows) × Writing (row_lines l.k l.count l.rows) l.at l.initial.out (row_lines l.k l.left (drop l.from l.rows)) l.next l.out
-
-abbrev pub decreases-loop-left : goal.decreases-loop-left
-decreases-loop-left l = l.left
+abbrev pub invariant-loop : goal.invariant-loop
+invariant-loop l = ((l.count - l.counter) * l.k ≤ length l.rest) × Writing (row_lines l.k l.count l.rows) l.at l.initial.out (row_lines l.k (l.count - l.counter) l.rest) l.next l.out

@@ -1,12 +1,16 @@
+use Rattle.std.proofs.lemmas.Result.{err_from_is_err_and}
 use Rattle.lookup.proofs.Results.{lookup_accepted, nodes_over, nodes_counted, none_over, none_counted}
-use borrow.Author.Rules.{rules}
 use Rattle.lookup.proofs.descendants.Goals as goal
 
-pub returns-then-v-ne0 : goal.returns-then-v-ne0
-returns-then-v-ne0 c = search (none_over, none_counted, rules)
+pub returns-in_err-nodes : goal.returns-in_err-nodes
+returns-in_err-nodes c =
+    let p = err_from_is_err_and c.from_residual.result c.from_residual.ensures.1 in
+    rw (p.1, p.2) (none_counted _ _ _ _ _ _ c.from.ensures _ c.in_err-nodes.ensures, none_over _ _ _ _ _ _ c.from.ensures _ c.in_err-nodes.ensures)
 
 pub put-requires : goal.put-requires
-put-requires c = lookup_accepted _ _ _ _ _ _ _ c.check-walk.ensures c.if-v-ne0.false
+put-requires c = lookup_accepted _ _ _ _ _ c.in_ok-nodes.ensures.0
 
 pub returns : goal.returns
-returns c = search (nodes_over, nodes_counted, rules)
+returns c =
+    let j = c.in_ok-nodes.ensures in
+    (nodes_counted _ _ _ _ _ _ c.from.ensures _ j.0 j.1 _ c.count_of.ensures, nodes_over _ _ _ _ _ _ c.from.ensures _ j.0 j.1 _ c.put.ensures)

@@ -5,13 +5,13 @@ use Rattle.lookup.proofs.Tags.{tag_start, tag_test, tag_found, tag_nowhere}
 use Rattle.lookup.proofs.first_after.Goals as goal
 
 pub loop-y-init : goal.loop-y-init
-loop-y-init c = (omega arith, (omega arith, search (tag_start, rules)))
+loop-y-init c = search (tag_start, rules)
 
 pub returns-then-found : goal.returns-then-found
 returns-then-found c = search (tag_found, tag_test, rules)
 
 pub loop-y-preserved : goal.loop-y-preserved
-loop-y-preserved c = (omega arith, (omega arith, search (any_miss, tag_test, rules)))
+loop-y-preserved c = search (any_miss, tag_test, rules)
 
 pub returns : goal.returns
-returns c = search (tag_nowhere, rules)
+returns c = tag_nowhere _ _ _ _ c.loop-y.invariant (omega arith) (omega arith)

@@ -1,4 +1,4 @@
-use Prim.Native.Nat.{suc, ◌-◌, ◌≤◌, ◌<◌}
+use Prim.Native.Nat.{suc}
 use mathlib.Core.Path.{◌≡◌}
 use mathlib.Core.Bool.{false}
 use Rattle.model.specs.Sets.{any}
@@ -7,7 +7,4 @@ use Rattle.index.specs.Index.{has_from}
 use Rattle.lookup.proofs.first_after.Given as goal
 
 abbrev pub invariant-loop-y : goal.invariant-loop-y
-invariant-loop-y l = (l.start < l.y) × ((l.y ≤ l.n) × (any l.y (has_from (tree_of l.tree) l.tag (suc l.start)) ≡ false))
-
-abbrev pub decreases-loop-y : goal.decreases-loop-y
-decreases-loop-y l = l.n - l.y
+invariant-loop-y l = any l.y (has_from (tree_of l.tree) l.tag (suc l.start)) ≡ false

@@ -1,5 +1,3 @@
-use Prim.Native.Nat.{◌<◌}
-use native.Mathlib.Omega.{arith}
 use borrow.Author.Rules.{rules}
 use Rattle.lookup.proofs.Walks.{walk_start, walk_fits, walk_read, walk_breaks, walk_less, walk_next, walk_ends}
 use Rattle.lookup.proofs.follow.Goals as goal
@@ -7,14 +5,8 @@ use Rattle.lookup.proofs.follow.Goals as goal
 pub loop-y-init : goal.loop-y-init
 loop-y-init c = search (walk_start, rules)
 
-pub offset_bounds-next-y : goal.offset_bounds-next-y
-offset_bounds-next-y c = let h : c.loop-y.y < 256 = search (walk_fits, rules) in omega (arith, h)
-
 pub bounds-next-y : goal.bounds-next-y
 bounds-next-y c = search (walk_read, rules)
-
-pub reply_at-requires : goal.reply_at-requires
-reply_at-requires c = let h : c.loop-y.y < 256 = search (walk_fits, rules) in omega (arith, h)
 
 pub returns-then-broken : goal.returns-then-broken
 returns-then-broken c = search (walk_breaks, rules)
@@ -29,4 +21,4 @@ pub loop-y-preserved : goal.loop-y-preserved
 loop-y-preserved c = search (walk_next, rules)
 
 pub returns : goal.returns
-returns c = search (walk_ends, rules)
+returns c = walk_ends _ _ _ _ _ _ _ c.loop-y.invariant c.requires.0 c.loop-y-test.false

@@ -6,13 +6,13 @@ use Rattle.lookup.proofs.Subtree.{end_start, end_test}
 use Rattle.lookup.proofs.subtree_end.Goals as goal
 
 pub loop-y-init : goal.loop-y-init
-loop-y-init c = (omega arith, (omega arith, search (end_start, rules)))
+loop-y-init c = search (end_start, rules)
 
 pub returns-then-beyond : goal.returns-then-beyond
 returns-then-beyond c = search (found, end_test, rules)
 
 pub loop-y-preserved : goal.loop-y-preserved
-loop-y-preserved c = (omega arith, (omega arith, search (any_miss, end_test, rules)))
+loop-y-preserved c = search (any_miss, end_test, rules)
 
 pub returns : goal.returns
-returns c = search (nowhere, rules)
+returns c = nowhere _ _ _ c.loop-y.invariant (omega arith) (omega arith)

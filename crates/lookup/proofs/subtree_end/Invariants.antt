@@ -1,4 +1,3 @@
-use Prim.Native.Nat.{◌-◌, ◌≤◌, ◌<◌}
 use mathlib.Core.Path.{◌≡◌}
 use mathlib.Core.Bool.{false}
 use Rattle.model.specs.Sets.{any}
@@ -7,7 +6,4 @@ use Rattle.model.specs.Axes.{following}
 use Rattle.lookup.proofs.subtree_end.Given as goal
 
 abbrev pub invariant-loop-y : goal.invariant-loop-y
-invariant-loop-y l = (l.start < l.y) × ((l.y ≤ l.n) × (any l.y (following (tree_of l.tree) l.start) ≡ false))
-
-abbrev pub decreases-loop-y : goal.decreases-loop-y
-decreases-loop-y l = l.n - l.y
+invariant-loop-y l = any l.y (following (tree_of l.tree) l.start) ≡ false

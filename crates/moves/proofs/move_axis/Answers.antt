@@ -2,4 +2,4 @@ use Rattle.moves.proofs.Axes.{axis_moved}
 use Rattle.moves.proofs.move_axis.Goals as goal
 
 pub returns : goal.returns
-returns c = axis_moved _ _ _ _ _ c.move_forward.ensures c.requires.0.tree.sound.at_most c.requires.1.0
+returns c = axis_moved _ _ c.args.a _ _ _ c.move_forward.ensures c.is_converse-back.ensures c.requires.0.tree.sound.at_most

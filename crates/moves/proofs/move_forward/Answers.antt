@@ -1,32 +1,31 @@
-use native.Mathlib.Omega.{arith}
-use mathlib.Core.Path.{◌≡◌}
-use Rattle.steps.proofs.Images.{moves}
+use mathlib.Core.Path.{refl}
+use Rattle.steps.proofs.Images.{moves, pair_is}
 use Rattle.moves.proofs.Axes.{forward_moved, forward_stay}
 use Rattle.moves.proofs.move_forward.Goals as goal
 
-pub returns-then-h-eq0 : goal.returns-then-h-eq0
-returns-then-h-eq0 c = forward_stay _ _ c.requires.0 _ c.args.back _ c.if-h-eq0.true
+pub returns-in-Itself : goal.returns-in-Itself
+returns-in-Itself c = forward_stay _ _ c.requires.0 _ c.args.back _ (rw c.in-Itself.is)
 
-pub returns-then-h-eq1 : goal.returns-then-h-eq1
+pub returns-in-Child : goal.returns-in-Child
 unfolding moves
-returns-then-h-eq1 c = forward_moved _ _ c.requires.0 _ 1 c.args.back _ _ c.move_hop.ensures c.if-h-eq1.true
+returns-in-Child c = forward_moved _ _ c.requires.0 _ 1 c.args.back _ _ c.move_hop.ensures (pair_is _ _ _ _ c.in-Child.is refl refl)
 
-pub returns-then-h-eq2 : goal.returns-then-h-eq2
+pub returns-in-Right : goal.returns-in-Right
 unfolding moves
-returns-then-h-eq2 c = forward_moved _ _ c.requires.0 _ 2 c.args.back _ _ c.move_hop-then-h-eq2.ensures c.if-h-eq2.true
+returns-in-Right c = forward_moved _ _ c.requires.0 _ 2 c.args.back _ _ c.move_hop-in-Right.ensures (pair_is _ _ _ _ c.in-Right.is refl refl)
 
-pub returns-then-h-eq3 : goal.returns-then-h-eq3
+pub returns-in-Descendant : goal.returns-in-Descendant
 unfolding moves
-returns-then-h-eq3 c = forward_moved _ _ c.requires.0 _ 3 c.args.back _ _ c.move_plus.ensures c.if-h-eq3.true
+returns-in-Descendant c = forward_moved _ _ c.requires.0 _ 3 c.args.back _ _ c.move_plus.ensures (pair_is _ _ _ _ c.in-Descendant.is refl refl)
 
-pub returns-then-h-eq4 : goal.returns-then-h-eq4
+pub returns-in-Following : goal.returns-in-Following
 unfolding moves
-returns-then-h-eq4 c = forward_moved _ _ c.requires.0 _ 4 c.args.back _ _ c.move_following.ensures c.if-h-eq4.true
+returns-in-Following c = forward_moved _ _ c.requires.0 _ 4 c.args.back _ _ c.move_following.ensures (pair_is _ _ _ _ c.in-Following.is refl refl)
 
-pub returns-then-h-eq5 : goal.returns-then-h-eq5
+pub returns-in-FollowingSibling : goal.returns-in-FollowingSibling
 unfolding moves
-returns-then-h-eq5 c = forward_moved _ _ c.requires.0 _ 5 c.args.back _ _ c.move_plus-then-h-eq5.ensures c.if-h-eq5.true
+returns-in-FollowingSibling c = forward_moved _ _ c.requires.0 _ 5 c.args.back _ _ c.move_plus-in-FollowingSibling.ensures (pair_is _ _ _ _ c.in-FollowingSibling.is refl refl)
 
-pub returns : goal.returns
+pub returns-in-DescendantOrSelf : goal.returns-in-DescendantOrSelf
 unfolding moves
-returns c = let last : c.args.h ≡ 6 = omega arith in forward_moved _ _ c.requires.0 _ 6 c.args.back _ _ c.move_star.ensures last
+returns-in-DescendantOrSelf c = forward_moved _ _ c.requires.0 _ 6 c.args.back _ _ c.move_star.ensures (pair_is _ _ _ _ c.in-DescendantOrSelf.is refl refl)

@@ -3,8 +3,8 @@ use Rattle.names.proofs.Requests.{in_first, in_second}
 use borrow.Author.Rules.{rules}
 use Rattle.names.proofs.find.Goals as goal
 
-pub returns-in-At : goal.returns-in-At
-returns-in-At c = search (in_first, rules)
+pub returns-in-Ok : goal.returns-in-Ok
+returns-in-Ok c = search (in_first, rules)
 
-pub returns-in-Past : goal.returns-in-Past
-returns-in-Past c = search (in_second, rules)
+pub returns-in-Err : goal.returns-in-Err
+returns-in-Err c = search (in_second, rules)

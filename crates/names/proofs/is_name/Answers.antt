@@ -1,10 +1,6 @@
 -- The part of the table that is compared is the name, or what of it the table has.
-use Rattle.names.proofs.Searching.{cut_short, in_full}
-use borrow.Author.Rules.{rules}
+use Rattle.names.proofs.Searching.{name_compared}
 use Rattle.names.proofs.is_name.Goals as goal
 
-pub returns-then-left-len : goal.returns-then-left-len
-returns-then-left-len c = search (cut_short, rules)
-
 pub returns : goal.returns
-returns c = search (in_full, rules)
+returns c = name_compared _ _ _ _ _ _ c.requires c.min.ensures c.eq.ensures

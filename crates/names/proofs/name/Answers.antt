@@ -14,13 +14,13 @@ pub overflow_add-end : goal.overflow_add-end
 overflow_add-end c = search (ends_below, rules)
 
 pub slice_bounds-result-end-in-House : goal.slice_bounds-result-end-in-House
-slice_bounds-result-end-in-House c = ends_in _ _ _ _ _ House c.look_up.ensures c.in-Named.is c.in-House.is
+slice_bounds-result-end-in-House c = ends_in _ _ _ _ _ House c.look_up.ensures c.in-Ok.is c.in-House.is
 
 pub slice_bounds-result-end-in-Site : goal.slice_bounds-result-end-in-Site
-slice_bounds-result-end-in-Site c = ends_in _ _ _ _ _ Site c.look_up.ensures c.in-Named.is c.in-Site.is
+slice_bounds-result-end-in-Site c = ends_in _ _ _ _ _ Site c.look_up.ensures c.in-Ok.is c.in-Site.is
 
 pub returns-in-House : goal.returns-in-House
-returns-in-House c = is_part _ _ _ House c.in-Named.p _ (is_name _ _ _ _ _ c.look_up.ensures c.in-Named.is) c.in-House.is refl (omega arith) refl
+returns-in-House c = is_part _ _ _ House c.in-Ok.p _ (is_name _ _ _ _ _ c.look_up.ensures c.in-Ok.is) c.in-House.is refl (omega arith) refl
 
 pub returns-in-Site : goal.returns-in-Site
-returns-in-Site c = is_part _ _ _ Site c.in-Named.p _ (is_name _ _ _ _ _ c.look_up.ensures c.in-Named.is) c.in-Site.is refl (omega arith) refl
+returns-in-Site c = is_part _ _ _ Site c.in-Ok.p _ (is_name _ _ _ _ _ c.look_up.ensures c.in-Ok.is) c.in-Site.is refl (omega arith) refl

@@ -7,11 +7,11 @@ use Rattle.names.proofs.spot.Goals as goal
 pub loop-at-init : goal.loop-at-init
 loop-at-init c = refl
 
-pub returns-then-number-gt65533 : goal.returns-then-number-gt65533
-returns-then-number-gt65533 c = tags_end _ _ _ _ _ c.loop-at.invariant (search rules) (omega arith)
+pub returns-then-passed : goal.returns-then-passed
+returns-then-passed c = tags_end _ _ _ _ _ c.loop-at.invariant (search rules) (omega arith)
 
 pub returns-then-is_name : goal.returns-then-is_name
-returns-then-is_name c = is_hit _ _ _ _ _ _ _ c.loop-at.invariant (search rules) (omega arith) c.wide-len.ensures.0 c.is_name.ensures c.if-is_name.true
+returns-then-is_name c = is_hit _ _ _ _ _ _ _ c.loop-at.invariant (search rules) (omega arith) c.from-len.ensures c.is_name.ensures c.if-is_name.true
 
 pub loop-at-preserved : goal.loop-at-preserved
 loop-at-preserved c = search (is_miss, rules)

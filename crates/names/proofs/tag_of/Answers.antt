@@ -6,14 +6,14 @@ use Rattle.names.proofs.tag_of.Goals as goal
 pub overflow_cast-result : goal.overflow_cast-result
 overflow_cast-result c = search (house_low, rules)
 
-pub overflow_cast-result-in-Number-spot : goal.overflow_cast-result-in-Number-spot
-overflow_cast-result-in-Number-spot c = search (site_low, rules)
+pub overflow_cast-result-in-Ok-spot : goal.overflow_cast-result-in-Ok-spot
+overflow_cast-result-in-Ok-spot c = search (site_low, rules)
 
-pub returns-in-Number : goal.returns-in-Number
-returns-in-Number c = search (house_tag, rules)
+pub returns-in-Ok : goal.returns-in-Ok
+returns-in-Ok c = search (house_tag, rules)
 
-pub returns-in-Number-spot : goal.returns-in-Number-spot
-returns-in-Number-spot c = search (site_tag, rules)
+pub returns-in-Ok-spot : goal.returns-in-Ok-spot
+returns-in-Ok-spot c = search (site_tag, rules)
 
-pub returns-in-Passed-spot : goal.returns-in-Passed-spot
-returns-in-Passed-spot c = search (no_tag, rules)
+pub returns-in-Err-spot : goal.returns-in-Err-spot
+returns-in-Err-spot c = search (no_tag, rules)

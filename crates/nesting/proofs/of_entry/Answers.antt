@@ -1,25 +1,17 @@
-use borrow.Author.Rules.{rules}
-use Rattle.aside.proofs.Entries.{left_index, right_index}
-use Rattle.nesting.proofs.Depths.{deep_none, left_small, deep_one, both_small, deep_two}
+use Rattle.nesting.proofs.Depths.{deep_none, one_small, deep_one, both_small, deep_two}
 use Rattle.nesting.proofs.of_entry.Goals as goal
 
-pub returns-then-not-some : goal.returns-then-not-some
-returns-then-not-some c = search (deep_none, rules)
-
-pub bounds-depths-i : goal.bounds-depths-i
-bounds-depths-i c = search (left_index, rules)
+pub returns-in-None : goal.returns-in-None
+returns-in-None c = deep_none c.requires c.in-None.ensures
 
 pub deeper-requires : goal.deeper-requires
-deeper-requires c = search (left_small, rules)
+deeper-requires c = one_small c.requires c.in-One.ensures
 
-pub returns-then-not-two : goal.returns-then-not-two
-returns-then-not-two c = search (deep_one, rules)
+pub returns-in-One : goal.returns-in-One
+returns-in-One c = deep_one c.requires c.in-One.ensures c.kind_of-kind.ensures c.entry_at.ensures.0 _ c.deeper.ensures
 
-pub bounds-depths-j : goal.bounds-depths-j
-bounds-depths-j c = search (right_index, rules)
+pub deeper-requires-in-Two : goal.deeper-requires-in-Two
+deeper-requires-in-Two c = both_small c.requires c.in-Two.ensures _ c.max.ensures
 
-pub deeper-requires-2 : goal.deeper-requires-2
-deeper-requires-2 c = search (both_small, rules)
-
-pub returns : goal.returns
-returns c = search (deep_two, rules)
+pub returns-in-Two : goal.returns-in-Two
+returns-in-Two c = deep_two c.requires c.in-Two.ensures _ c.max.ensures c.kind_of-kind.ensures c.entry_at.ensures.0 _ c.deeper-in-Two.ensures

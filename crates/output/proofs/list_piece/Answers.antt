@@ -3,11 +3,11 @@ use Rattle.job.proofs.Files.{tree_within, query_within}
 use Rattle.std.proofs.Common.{rules}
 use Rattle.output.proofs.list_piece.Goals as goal
 
-pub returns-then-reply-ne0 : goal.returns-then-reply-ne0
-returns-then-reply-ne0 c = file_refused _ _ c.open-job.ensures _ _ _ _ _ c.refused_piece.ensures c.if-reply-ne0.true
-
 pub parts_piece-requires : goal.parts_piece-requires
-parts_piece-requires c = search (tree_within, query_within, rules)
+parts_piece-requires c = (tree_within _ _ c.in-Ok.ensures, query_within _ _ c.in-Ok.ensures, c.requires)
 
-pub returns : goal.returns
-returns c = file_listed _ _ c.open-job.ensures _ _ _ _ _ c.if-reply-ne0.false c.parts_piece.ensures
+pub returns-in-Ok : goal.returns-in-Ok
+returns-in-Ok c = file_listed _ _ _ _ _ _ _ c.in-Ok.ensures c.parts_piece.ensures
+
+pub returns-in-Err : goal.returns-in-Err
+returns-in-Err c = file_refused _ _ _ _ _ _ _ _ c.in-Err.ensures c.from.ensures c.refused_piece.ensures

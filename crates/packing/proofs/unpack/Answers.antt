@@ -1,13 +1,14 @@
-use borrow.Author.Rules.{rules}
-use Rattle.model.proofs.Refusals.{written_not}
-use Rattle.packing.proofs.Verdicts.{unpack_ready, unpack_over}
+use mathlib.Core.Path.{refl}
+use Rattle.std.proofs.lemmas.Result.{err_from_is_err_and}
+use Rattle.packing.proofs.Verdicts.{unpack_ready, unpack_over, buffer_left}
 use Rattle.packing.proofs.unpack.Goals as goal
 
-pub returns-then-v-ne0 : goal.returns-then-v-ne0
-returns-then-v-ne0 c = search (written_not, rules)
+pub returns-in_err-check_unpack : goal.returns-in_err-check_unpack
+returns-in_err-check_unpack c =
+    let p = err_from_is_err_and c.from_residual.result c.from_residual.ensures.1 in rw (p.1, p.2) (buffer_left _ _ _ _ c.in_err-check_unpack.ensures)
 
 pub unpack_into-requires : goal.unpack_into-requires
-unpack_into-requires c = unpack_ready _ _ _ _ c.check_unpack-v.ensures c.if-v-ne0.false
+unpack_into-requires c = unpack_ready _ _ _ _ c.in_ok-check_unpack.ensures refl
 
 pub returns : goal.returns
-returns c = search (unpack_over, rules)
+returns c = (c.in_ok-check_unpack.ensures, unpack_over _ _ _ _ _ _ c.unpack_into.ensures c.in_ok-check_unpack.ensures refl)

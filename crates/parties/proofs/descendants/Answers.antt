@@ -1,18 +1,20 @@
+use Rattle.std.proofs.lemmas.Result.{err_from_is_err_and}
 use Rattle.parties.specs.Services.{seen_lookup}
 use Rattle.parties.proofs.Over.{front_length, one_refused, one_seen}
-use borrow.Author.Rules.{rules}
 use Rattle.parties.proofs.descendants.Goals as goal
 
-pub returns-then-v-ne0 : goal.returns-then-v-ne0
+pub returns-in_err-count : goal.returns-in_err-count
 unfolding seen_lookup
-returns-then-v-ne0 c = one_refused c.look-sight.ensures _ _ _ _ c.image_reply.ensures (search rules)
+returns-in_err-count c =
+    let p = err_from_is_err_and c.from_residual.result c.from_residual.ensures.1 in
+    rw (p.1, p.2) (one_refused c.in_err-count.ensures _ _ _)
 
 pub slice_bounds-descendants-end : goal.slice_bounds-descendants-end
-slice_bounds-descendants-end c = front_length c.look-sight.ensures
+slice_bounds-descendants-end c = front_length c.in_ok-count.ensures
 
 pub descendants-requires : goal.descendants-requires
-descendants-requires c = c.look-sight.ensures.accepted (search rules)
+descendants-requires c = c.in_ok-count.ensures.seen.accepted
 
 pub returns : goal.returns
 unfolding seen_lookup
-returns c = one_seen c.look-sight.ensures _ _ _ _ _ c.descendants.ensures (search rules)
+returns c = one_seen c.in_ok-count.ensures _ _ _ _ _ c.descendants.ensures

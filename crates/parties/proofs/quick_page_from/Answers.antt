@@ -1,15 +1,17 @@
+use Rattle.std.proofs.lemmas.Result.{err_from_is_err_and}
 use Rattle.parties.proofs.Over.{front_length, quick_refused, quick_seen}
-use borrow.Author.Rules.{rules}
 use Rattle.parties.proofs.quick_page_from.Goals as goal
 
-pub returns-then-v-ne0 : goal.returns-then-v-ne0
-returns-then-v-ne0 c = quick_refused c.look-sight.ensures _ _ _ _ _ c.refused.ensures (search rules)
+pub returns-in_err-count : goal.returns-in_err-count
+returns-in_err-count c =
+    let p = err_from_is_err_and c.from_residual.result c.from_residual.ensures.1 in
+    rw (p.1, p.2) (quick_refused c.in_err-count.ensures _ _ _ _)
 
 pub slice_bounds-page_from-end : goal.slice_bounds-page_from-end
-slice_bounds-page_from-end c = front_length c.look-sight.ensures
+slice_bounds-page_from-end c = front_length c.in_ok-count.ensures
 
 pub page_from-requires : goal.page_from-requires
-page_from-requires c = c.look-sight.ensures.accepted (search rules)
+page_from-requires c = c.in_ok-count.ensures.seen.accepted
 
 pub returns : goal.returns
-returns c = quick_seen c.look-sight.ensures _ _ _ _ _ _ _ c.page_from.ensures (search rules)
+returns c = quick_seen c.in_ok-count.ensures _ _ _ _ _ _ _ c.page_from.ensures

@@ -1,19 +1,11 @@
-use borrow.Author.Rules.{rules}
-use Rattle.aside.proofs.Entries.{left_index, right_index}
 use Rattle.pruning.proofs.Entries.{bound_nothing, bound_left, bound_both}
 use Rattle.pruning.proofs.bound_of.Goals as goal
 
-pub returns-then-not-some : goal.returns-then-not-some
-returns-then-not-some c = search (bound_nothing, rules)
+pub returns-in-None : goal.returns-in-None
+returns-in-None c = bound_nothing c.requires.0 c.requires.1 c.in-None.ensures
 
-pub operand-a-requires : goal.operand-a-requires
-operand-a-requires c = search (left_index, rules)
+pub returns-in-One : goal.returns-in-One
+returns-in-One c = bound_left c.requires.0 c.requires.1 _ c.kind_of-kind.ensures c.entry_at.ensures.0 c.in-One.ensures _ c.eq.ensures _ c.operand.ensures
 
-pub returns-then-not-two : goal.returns-then-not-two
-returns-then-not-two c = search (bound_left, rules)
-
-pub operand-b-requires : goal.operand-b-requires
-operand-b-requires c = search (right_index, rules)
-
-pub returns : goal.returns
-returns c = search (bound_both, rules)
+pub returns-in-Two : goal.returns-in-Two
+returns-in-Two c = bound_both c.requires.0 c.requires.1 _ c.kind_of-kind.ensures c.entry_at.ensures.0 c.in-Two.ensures _ c.eq-in-Two.ensures _ c.operand-in-Two.ensures _ c.max.ensures

@@ -1,25 +1,14 @@
-use borrow.Author.Rules.{rules}
-use Rattle.aside.proofs.Entries.{left_index, right_index}
-use Rattle.pruning.proofs.Entries.{name_few, reached_name, reached_none, reached_one, reached_two}
+use Rattle.pruning.proofs.Entries.{reached_name, reached_none, reached_one, reached_two}
 use Rattle.pruning.proofs.reach_of.Goals as goal
 
-pub up_to-requires : goal.up_to-requires
-up_to-requires c = search (name_few, rules)
-
 pub returns-then-names : goal.returns-then-names
-returns-then-names c = search (reached_name, rules)
+returns-then-names c = reached_name c.requires.1 c.entry_at-f.ensures.0 c.names_variable-names.ensures c.if-names.true _ c.up_to.ensures
 
-pub returns-then-not-some : goal.returns-then-not-some
-returns-then-not-some c = search (reached_none, rules)
+pub returns-else-names : goal.returns-else-names
+returns-else-names c = reached_none c.requires.1 c.entry_at-f.ensures.0 c.names_variable-names.ensures c.if-names.false c.in-None.ensures
 
-pub bounds-kept-i : goal.bounds-kept-i
-bounds-kept-i c = search (left_index, rules)
+pub returns-in-One : goal.returns-in-One
+returns-in-One c = reached_one c.requires.1 c.in-One.ensures
 
-pub returns-then-not-two : goal.returns-then-not-two
-returns-then-not-two c = search (reached_one, rules)
-
-pub bounds-kept-j : goal.bounds-kept-j
-bounds-kept-j c = search (right_index, rules)
-
-pub returns : goal.returns
-returns c = search (reached_two, rules)
+pub returns-in-Two : goal.returns-in-Two
+returns-in-Two c = reached_two c.requires.1 c.in-Two.ensures _ c.max.ensures

@@ -1,10 +1,5 @@
-use Prim.Native.Nat.{◌-◌, ◌≤◌}
-use Rattle.aside.specs.Aside.{NumbersTo}
 use Rattle.pruning.specs.Pruning.{reach_at}
 use Rattle.pruning.proofs.reaches.Given as goal
 
-abbrev pub invariant-loop-e : goal.invariant-loop-e
-invariant-loop-e l = (l.e ≤ l.n) × NumbersTo (reach_at l.query) l.e l.kept
-
-abbrev pub decreases-loop-e : goal.decreases-loop-e
-decreases-loop-e l = l.n - l.e
+abbrev pub ghost-number_entries : goal.ghost-number_entries
+ghost-number_entries a = reach_at a.query.now

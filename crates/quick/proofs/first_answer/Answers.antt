@@ -13,7 +13,7 @@ pub fill-requires : goal.fill-requires
 fill-requires c = (c.requires.0, (zero_nodes c.requires.0, (omega arith, (some_begins c.requires.0 _ c.has_answer.ensures c.if-has_answer.true (zero_nodes c.requires.0), omega arith))))
 
 pub returns-then-has_answer : goal.returns-then-has_answer
-returns-then-has_answer c = first_filled c.requires.0 c.args.cursor c.if-begun.false-raw _ c.fill.ensures
+returns-then-has_answer c = first_filled c.requires.0 c.args.cursor c.if-begun.false-raw c.fill.result c.fill.ensures
 
 pub returns : goal.returns
 returns c = first_none c.requires.0 c.args.cursor c.if-begun.false-raw _ c.has_answer.ensures c.if-has_answer.false _ c.no_answer.ensures

@@ -1,33 +1,31 @@
-use native.Mathlib.Omega.{arith}
-use mathlib.Core.Path.{◌≡◌}
-use borrow.Author.Rules.{rules}
-use Rattle.steps.proofs.Images.{moves, forward_by}
+use mathlib.Core.Path.{refl}
+use Rattle.steps.proofs.Images.{moves, forward_by, pair_is}
 use Rattle.steps.proofs.forward_image.Goals as goal
 
-pub returns-then-h-eq0 : goal.returns-then-h-eq0
+pub returns-in-Itself : goal.returns-in-Itself
 unfolding moves
-returns-then-h-eq0 c = search (forward_by, rules)
+returns-in-Itself c = forward_by _ _ c.requires _ 0 c.args.back _ _ c.self_image.ensures (rw c.in-Itself.is)
 
-pub returns-then-h-eq1 : goal.returns-then-h-eq1
+pub returns-in-Child : goal.returns-in-Child
 unfolding moves
-returns-then-h-eq1 c = search (forward_by, rules)
+returns-in-Child c = forward_by _ _ c.requires _ 1 c.args.back _ _ c.link_image.ensures (pair_is _ _ _ 1 c.in-Child.is refl refl)
 
-pub returns-then-h-eq2 : goal.returns-then-h-eq2
+pub returns-in-Right : goal.returns-in-Right
 unfolding moves
-returns-then-h-eq2 c = search (forward_by, rules)
+returns-in-Right c = forward_by _ _ c.requires _ 2 c.args.back _ _ c.link_image-in-Right.ensures (pair_is _ _ _ 2 c.in-Right.is refl refl)
 
-pub returns-then-h-eq3 : goal.returns-then-h-eq3
+pub returns-in-Descendant : goal.returns-in-Descendant
 unfolding moves
-returns-then-h-eq3 c = search (forward_by, rules)
+returns-in-Descendant c = forward_by _ _ c.requires _ 3 c.args.back _ _ c.link_image-in-Descendant.ensures (pair_is _ _ _ 3 c.in-Descendant.is refl refl)
 
-pub returns-then-h-eq4 : goal.returns-then-h-eq4
+pub returns-in-Following : goal.returns-in-Following
 unfolding moves
-returns-then-h-eq4 c = search (forward_by, rules)
+returns-in-Following c = forward_by _ _ c.requires _ 4 c.args.back _ _ c.following_image.ensures (pair_is _ _ _ 4 c.in-Following.is refl refl)
 
-pub returns-then-h-eq5 : goal.returns-then-h-eq5
+pub returns-in-FollowingSibling : goal.returns-in-FollowingSibling
 unfolding moves
-returns-then-h-eq5 c = search (forward_by, rules)
+returns-in-FollowingSibling c = forward_by _ _ c.requires _ 5 c.args.back _ _ c.link_image-in-FollowingSibling.ensures (pair_is _ _ _ 5 c.in-FollowingSibling.is refl refl)
 
-pub returns : goal.returns
+pub returns-in-DescendantOrSelf : goal.returns-in-DescendantOrSelf
 unfolding moves
-returns c = let last : c.args.h ≡ 6 = omega arith in search (forward_by, rules)
+returns-in-DescendantOrSelf c = forward_by _ _ c.requires _ 6 c.args.back _ _ c.star_image.ensures (pair_is _ _ _ 6 c.in-DescendantOrSelf.is refl refl)

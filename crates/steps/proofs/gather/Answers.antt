@@ -14,8 +14,8 @@ unfolding memb
 loop-y-preserved c = (
   omega arith,
   elim c.if-p-y.branch [
-    | then-p-y w ↦ w.r-is ∙ gather_store _ _ _ _ _ _ _ c.loop-y.invariant.1 c.wide-p.ensures.0 c.loop-y-test.true _ w.if-p-y.true (omega arith) w.byte.ensures
-    | else-p-y w ↦ w.r-is ∙ gather_skip _ _ _ _ _ _ _ c.loop-y.invariant.1 c.wide-p.ensures.0 c.loop-y-test.true w.if-p-y.false
+    | then-p-y w ↦ w.r-is ∙ gather_store _ _ _ _ _ _ _ c.loop-y.invariant.1 c.from-p.ensures (omega arith) _ w.if-p-y.true (omega arith) w.byte.ensures
+    | else-p-y w ↦ w.r-is ∙ gather_skip _ _ _ _ _ _ _ c.loop-y.invariant.1 c.from-p.ensures (omega arith) w.if-p-y.false
   ],
 )
 

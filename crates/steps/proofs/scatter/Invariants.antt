@@ -5,8 +5,5 @@ use Rattle.tree.specs.Links.{links}
 use Rattle.steps.proofs.Loops.{part}
 use Rattle.steps.proofs.scatter.Given as goal
 
-abbrev pub invariant-loop-i : goal.invariant-loop-i
-invariant-loop-i l = (l.i ≤ l.n) × (l.r ≡ tab 256 (part (links l.link) l.n (memb l.from) l.closed l.i))
-
-abbrev pub decreases-loop-i : goal.decreases-loop-i
-decreases-loop-i l = l.i
+abbrev pub invariant-loop-y : goal.invariant-loop-y
+invariant-loop-y l = (l.y ≤ l.n) × (l.r ≡ tab 256 (part (links l.link) l.n (memb l.from) l.closed l.y))

@@ -1,4 +1,4 @@
-use Prim.Native.Nat.{◌-◌, ◌≤◌}
+use Prim.Native.Nat.{◌≤◌}
 use mathlib.Core.Path.{◌≡◌}
 use Rattle.model.specs.Sets.{upto}
 use Rattle.bits.specs.BitTables.{bit_relation}
@@ -8,6 +8,3 @@ use Rattle.tables.proofs.starts.Given as goal
 
 abbrev pub invariant-loop-x : goal.invariant-loop-x
 invariant-loop-x l = (l.x ≤ l.n) × (l.r ≡ words 4 (upto l.x (has_pair (bit_relation l.acc))))
-
-abbrev pub decreases-loop-x : goal.decreases-loop-x
-decreases-loop-x l = l.n - l.x

@@ -3,6 +3,3 @@ use Rattle.answers.proofs.blocks.zeros_from.Given as goal
 
 abbrev pub invariant-loop-i : goal.invariant-loop-i
 invariant-loop-i l = ZerosFrom l.k l.low l.row l.i
-
-abbrev pub decreases-loop-i : goal.decreases-loop-i
-decreases-loop-i l = l.i

@@ -3,6 +3,3 @@ use Rattle.answers.proofs.rows.beyond.Given as goal
 
 abbrev pub invariant-loop-j : goal.invariant-loop-j
 invariant-loop-j l = Counting l.n l.k l.i l.initial.next l.next l.j
-
-abbrev pub decreases-loop-j : goal.decreases-loop-j
-decreases-loop-j l = l.j

@@ -1,4 +1,3 @@
-use Prim.Native.Nat.{◌-◌, ◌≤◌}
 use mathlib.Core.Path.{◌≡◌}
 use Rattle.model.specs.Sets.{tab, upto}
 use Rattle.bits.specs.BitTables.{bit_relation}
@@ -6,7 +5,4 @@ use Rattle.engines.specs.Reading.{meets}
 use Rattle.engines.proofs.reading.meeting.Given as goal
 
 abbrev pub invariant-loop-x : goal.invariant-loop-x
-invariant-loop-x l = (l.x ≤ l.n) × (l.r ≡ tab 256 (upto l.x (meets (bit_relation l.w) l.s)))
-
-abbrev pub decreases-loop-x : goal.decreases-loop-x
-decreases-loop-x l = l.n - l.x
+invariant-loop-x l = l.r ≡ tab 256 (upto l.x (meets (bit_relation l.w) l.s))

@@ -1,4 +1,4 @@
-use Prim.Native.Nat.{◌-◌, ◌*◌, ◌≤◌}
+use Prim.Native.Nat.{◌*◌}
 use mathlib.Core.Path.{◌≡◌}
 use mathlib.Core.Bool.{false}
 use mathlib.Core.List.{◌++◌}
@@ -9,7 +9,4 @@ use Rattle.model.specs.Results.{related, cell}
 use Rattle.images.proofs.rows.pairs_into.Given as goal
 
 abbrev pub invariant-loop-x : goal.invariant-loop-x
-invariant-loop-x l = (l.x ≤ l.n) × ((l.at ≡ l.x * l.n) × (l.table ≡ tab l.at (cell l.n (related l.tree l.query l.nodes (last_of l.query) false)) ++ drop l.at l.initial.table))
-
-abbrev pub decreases-loop-x : goal.decreases-loop-x
-decreases-loop-x l = l.n - l.x
+invariant-loop-x l = (l.at ≡ l.x * l.n) × (l.table ≡ tab l.at (cell l.n (related l.tree l.query l.nodes (last_of l.query) false)) ++ drop l.at l.initial.table)

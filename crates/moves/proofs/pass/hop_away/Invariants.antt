@@ -5,8 +5,5 @@ use Rattle.bits.specs.Rows.{Becomes}
 use Rattle.moves.proofs.Passes.{mixed, hopped}
 use Rattle.moves.proofs.pass.hop_away.Given as goal
 
-abbrev pub invariant-loop-i : goal.invariant-loop-i
-invariant-loop-i l = (l.i ≤ l.n) × Becomes l.n (mixed l.i (bit_relation l.initial.acc) (hopped (links l.link) l.n l.initial.acc)) l.initial.acc l.acc
-
-abbrev pub decreases-loop-i : goal.decreases-loop-i
-decreases-loop-i l = l.i
+abbrev pub invariant-loop-y : goal.invariant-loop-y
+invariant-loop-y l = (l.y ≤ l.n) × Becomes l.n (mixed l.y (bit_relation l.initial.acc) (hopped (links l.link) l.n l.initial.acc)) l.initial.acc l.acc

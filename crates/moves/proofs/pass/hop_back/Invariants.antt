@@ -1,4 +1,4 @@
-use Prim.Native.Nat.{◌-◌, ◌≤◌}
+use Prim.Native.Nat.{◌≤◌}
 use Rattle.tree.specs.Links.{links}
 use Rattle.bits.specs.Rows.{Becomes}
 use Rattle.moves.proofs.Passes.{backed}
@@ -6,6 +6,3 @@ use Rattle.moves.proofs.pass.hop_back.Given as goal
 
 abbrev pub invariant-loop-y : goal.invariant-loop-y
 invariant-loop-y l = (l.y ≤ l.n) × Becomes l.n (backed (links l.link) l.n l.initial.acc l.y) l.initial.acc l.acc
-
-abbrev pub decreases-loop-y : goal.decreases-loop-y
-decreases-loop-y l = l.n - l.y

@@ -1,4 +1,4 @@
-use Prim.Native.Nat.{◌-◌, ◌≤◌}
+use Prim.Native.Nat.{◌≤◌}
 use Rattle.tree.specs.Links.{links}
 use Rattle.bits.specs.BitTables.{bit_relation}
 use Rattle.bits.specs.Rows.{Becomes}
@@ -7,6 +7,3 @@ use Rattle.moves.proofs.pass.star_away.Given as goal
 
 abbrev pub invariant-loop-y : goal.invariant-loop-y
 invariant-loop-y l = (l.y ≤ l.n) × Becomes l.n (mixed l.y (starred (links l.link) l.n l.initial.acc) (bit_relation l.initial.acc)) l.initial.acc l.acc
-
-abbrev pub decreases-loop-y : goal.decreases-loop-y
-decreases-loop-y l = l.n - l.y

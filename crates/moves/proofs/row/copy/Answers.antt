@@ -1,16 +1,9 @@
-use native.Mathlib.Omega.{arith}
-use lib.ListN.{length-set}
+use Rattle.tables.proofs.Rows.{row_length}
 use Rattle.moves.proofs.Rows.{row_copy}
 use Rattle.moves.proofs.row.copy.Goals as goal
 
-pub bounds-w-i-2 : goal.bounds-w-i-2
-bounds-w-i-2 c = simp length-set (omega arith)
-
-pub bounds-w-i-3 : goal.bounds-w-i-3
-bounds-w-i-3 c = simp length-set (omega arith)
-
-pub bounds-w-i-4 : goal.bounds-w-i-4
-bounds-w-i-4 c = simp length-set (omega arith)
+pub put-requires : goal.put-requires
+put-requires c = (c.requires.0, row_length _ _ c.get-other.ensures)
 
 pub returns : goal.returns
-returns c = row_copy _ _ c.requires.0 _
+returns c = row_copy _ _ _ _ _ c.put.ensures c.get-other.ensures

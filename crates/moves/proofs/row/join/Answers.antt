@@ -1,16 +1,12 @@
-use native.Mathlib.Omega.{arith}
-use lib.ListN.{length-set}
+use Rattle.tables.proofs.Rows.{row_length}
 use Rattle.moves.proofs.Rows.{row_join}
 use Rattle.moves.proofs.row.join.Goals as goal
 
-pub bounds-w-i-6 : goal.bounds-w-i-6
-bounds-w-i-6 c = simp length-set (omega arith)
+pub join-both-requires : goal.join-both-requires
+join-both-requires c = (row_length _ _ c.get-own.ensures, c.requires.1)
 
-pub bounds-w-i-7 : goal.bounds-w-i-7
-bounds-w-i-7 c = simp length-set (omega arith)
-
-pub bounds-w-i-8 : goal.bounds-w-i-8
-bounds-w-i-8 c = simp length-set (omega arith)
+pub put-requires : goal.put-requires
+put-requires c = (c.requires.0, row_length _ _ c.join-both.ensures)
 
 pub returns : goal.returns
-returns c = row_join _ _ c.requires.0 _ (λ i. (c.slice_known-8-1.given i).fits)
+returns c = row_join _ _ _ _ _ _ c.put.ensures c.join-both.ensures c.get-own.ensures

@@ -1,4 +1,4 @@
-use Prim.Native.Nat.{◌-◌, ◌≤◌, ◌*◌}
+use Prim.Native.Nat.{◌*◌}
 use mathlib.Core.Path.{◌≡◌}
 use mathlib.Core.List.{◌++◌}
 use lib.ListN.{drop}
@@ -7,8 +7,4 @@ use Rattle.bits.specs.Words.{words}
 use Rattle.packing.proofs.convert.pack_into.Given as goal
 
 abbrev pub invariant-loop-x : goal.invariant-loop-x
-invariant-loop-x l =
-    (l.x ≤ l.n) × ((l.at ≡ l.x * l.n) × ((l.to ≡ 4 * l.x) × (l.words ≡ words l.to (bit_cell l.n (byte_relation l.n l.bytes)) ++ drop l.to l.initial.words)))
-
-abbrev pub decreases-loop-x : goal.decreases-loop-x
-decreases-loop-x l = l.n - l.x
+invariant-loop-x l = l.words ≡ words (4 * l.x) (bit_cell l.n (byte_relation l.n l.bytes)) ++ drop (4 * l.x) l.initial.words

@@ -1,31 +1,28 @@
 use native.Mathlib.Omega.{arith}
-use borrow.Author.Rules.{rules}
+use mathlib.Core.Path.{refl, sym}
 use Rattle.model.proofs.Refusals.{stop, stop_at, pass_at, pass}
+use Rattle.checks.proofs.Verdicts.{unlike, alike}
 use Rattle.packing.specs.Services.{pack_checks}
-use Rattle.packing.proofs.Verdicts.{size_small, square_small, byte_place}
 use Rattle.packing.proofs.refusal.check_pack.Goals as goal
 
-pub returns-then-bad : goal.returns-then-bad
+pub returns-then-is_bad_size : goal.returns-then-is_bad_size
 unfolding pack_checks
-returns-then-bad c = search (stop, rules) depth 8 fits 20000
+returns-then-is_bad_size c = stop 5 _ 0 _ _ _ refl c.is_bad_size.ensures c.if-is_bad_size.true
 
-pub overflow_mul-unlike : goal.overflow_mul-unlike
-overflow_mul-unlike c = omega (arith, square_small c.args.n _ c.is_bad_size-bad.ensures c.if-bad.false)
-
-pub returns-then-unlike : goal.returns-then-unlike
+pub returns-then-bytes-n : goal.returns-then-bytes-n
 unfolding pack_checks
-returns-then-unlike c = search (stop, pass, rules) depth 8 fits 20000
+returns-then-bytes-n c = pass 5 _ 0 _ _ _ (stop 18 _ 0 _ _ _ refl refl (unlike _ _ c.if-bytes-n.true)) c.is_bad_size.ensures c.if-is_bad_size.false
 
-pub reply_at-requires-then-i-bytes : goal.reply_at-requires-then-i-bytes
-reply_at-requires-then-i-bytes c = search (byte_place, rules) depth 8 fits 20000
-
-pub returns-then-i-bytes : goal.returns-then-i-bytes
+pub returns-in-Some : goal.returns-in-Some
 unfolding pack_checks
-returns-then-i-bytes c = search (stop, stop_at, pass, rules) depth 8 fits 20000
-
-pub overflow_mul-n : goal.overflow_mul-n
-overflow_mul-n c = omega (arith, size_small c.args.n _ c.is_bad_size-bad.ensures c.if-bad.false)
+returns-in-Some c =
+    pass 5 _ 0 _ _ _
+    (pass 18 _ 0 _ _ _ (stop_at 19 _ _ _ _ _ refl c.in-Some.ensures.1 c.in-Some.ensures.0) refl (alike _ _ c.if-bytes-n.false))
+    c.is_bad_size.ensures c.if-is_bad_size.false
 
 pub returns : goal.returns
 unfolding pack_checks
-returns c = search (pass_at, pass, rules) depth 8 fits 20000
+returns c =
+    pass 5 _ 0 _ _ _
+    (pass 18 _ 0 _ _ _ (pass_at 19 _ _ _ _ _ c.check_room.ensures (sym c.in_default.ensures) (omega arith)) refl (alike _ _ c.if-bytes-n.false))
+    c.is_bad_size.ensures c.if-is_bad_size.false

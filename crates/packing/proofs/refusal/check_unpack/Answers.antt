@@ -1,35 +1,28 @@
 use native.Mathlib.Omega.{arith}
-use mathlib.Core.Path.{refl}
-use borrow.Author.Rules.{rules}
+use mathlib.Core.Path.{refl, sym}
 use Rattle.model.proofs.Refusals.{stop, stop_at, pass_at, pass}
+use Rattle.checks.proofs.Verdicts.{unlike, alike}
 use Rattle.packing.specs.Services.{unpack_checks}
-use Rattle.packing.proofs.Verdicts.{size_small, square_small, as_due, row_place}
 use Rattle.packing.proofs.refusal.check_unpack.Goals as goal
 
-pub returns-then-bad : goal.returns-then-bad
+pub returns-then-is_bad_size : goal.returns-then-is_bad_size
 unfolding unpack_checks
-returns-then-bad c = search (stop, rules) depth 8 fits 20000
+returns-then-is_bad_size c = stop 5 _ 0 _ _ _ refl c.is_bad_size.ensures c.if-is_bad_size.true
 
-pub overflow_mul-unlike : goal.overflow_mul-unlike
-overflow_mul-unlike c = omega (arith, size_small c.args.n _ c.is_bad_size-bad.ensures c.if-bad.false)
-
-pub returns-then-unlike : goal.returns-then-unlike
+pub returns-then-words-n : goal.returns-then-words-n
 unfolding unpack_checks
-returns-then-unlike c = search (stop, pass, rules) depth 8 fits 20000
+returns-then-words-n c = pass 5 _ 0 _ _ _ (stop 18 _ 0 _ _ _ refl refl (unlike _ _ c.if-words-n.true)) c.is_bad_size.ensures c.if-is_bad_size.false
 
-pub lowest_stray_row-x-requires : goal.lowest_stray_row-x-requires
-lowest_stray_row-x-requires c = (size_small _ _ c.is_bad_size-bad.ensures c.if-bad.false, as_due _ _ _ refl c.if-unlike.false-raw)
-
-pub reply_at-requires-then-x-n : goal.reply_at-requires-then-x-n
-reply_at-requires-then-x-n c = search (row_place, rules) depth 8 fits 20000
-
-pub returns-then-x-n : goal.returns-then-x-n
+pub returns-in-Some : goal.returns-in-Some
 unfolding unpack_checks
-returns-then-x-n c = search (stop, stop_at, pass, rules) depth 8 fits 20000
-
-pub overflow_mul-n : goal.overflow_mul-n
-overflow_mul-n c = omega (arith, square_small c.args.n _ c.is_bad_size-bad.ensures c.if-bad.false)
+returns-in-Some c =
+    pass 5 _ 0 _ _ _
+    (pass 18 _ 0 _ _ _ (stop_at 28 _ _ _ _ _ refl c.in-Some.ensures.1 c.in-Some.ensures.0) refl (alike _ _ c.if-words-n.false))
+    c.is_bad_size.ensures c.if-is_bad_size.false
 
 pub returns : goal.returns
 unfolding unpack_checks
-returns c = search (pass_at, pass, rules) depth 8 fits 20000
+returns c =
+    pass 5 _ 0 _ _ _
+    (pass 18 _ 0 _ _ _ (pass_at 28 _ _ _ _ _ c.check_room.ensures (sym c.in_default.ensures) (omega arith)) refl (alike _ _ c.if-words-n.false))
+    c.is_bad_size.ensures c.if-is_bad_size.false

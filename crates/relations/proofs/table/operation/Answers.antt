@@ -1,8 +1,5 @@
-use Rattle.relations.proofs.Calls.{same_operation, path_operation}
+use Rattle.relations.proofs.Calls.{operation_left}
 use Rattle.relations.proofs.table.operation.Goals as goal
 
-pub returns-then-k-eq14 : goal.returns-then-k-eq14
-returns-then-k-eq14 c = same_operation _ c.if-k-eq14.true
-
-pub returns : goal.returns
-returns c = path_operation _ c.if-k-eq14.false
+pub returns-in_default : goal.returns-in_default
+returns-in_default c = operation_left c.args.kind c.requires.0 c.requires.1 c.in_default.not-Union c.in_default.not-Except

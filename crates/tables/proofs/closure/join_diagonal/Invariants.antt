@@ -1,4 +1,4 @@
-use Prim.Native.Nat.{◌-◌, ◌≤◌}
+use Prim.Native.Nat.{◌≤◌}
 use Rattle.bits.specs.BitTables.{bit_relation}
 use Rattle.bits.specs.Rows.{Becomes}
 use Rattle.tables.specs.Tables.{reflexive}
@@ -6,6 +6,3 @@ use Rattle.tables.proofs.closure.join_diagonal.Given as goal
 
 abbrev pub invariant-loop-x : goal.invariant-loop-x
 invariant-loop-x l = (l.x ≤ l.n) × Becomes l.x (reflexive (bit_relation l.initial.acc)) l.initial.acc l.acc
-
-abbrev pub decreases-loop-x : goal.decreases-loop-x
-decreases-loop-x l = l.n - l.x

@@ -1,4 +1,4 @@
-use Prim.Native.Nat.{◌-◌, ◌≤◌, ◌*◌}
+use Prim.Native.Nat.{◌≤◌, ◌*◌}
 use mathlib.Core.Path.{◌≡◌}
 use Rattle.bits.specs.Words.{words}
 use Rattle.tables.proofs.Compositions.{reached}
@@ -6,6 +6,3 @@ use Rattle.tables.proofs.product.row_of.Given as goal
 
 abbrev pub invariant-loop-j : goal.invariant-loop-j
 invariant-loop-j l = (l.j ≤ 4) × (l.r ≡ words 4 (reached (64 * l.j) l.n l.acc l.kept l.x))
-
-abbrev pub decreases-loop-j : goal.decreases-loop-j
-decreases-loop-j l = 4 - l.j

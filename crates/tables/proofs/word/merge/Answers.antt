@@ -1,11 +1,11 @@
 use Rattle.tables.proofs.Words.{merge_or, merge_and, merge_not}
 use Rattle.tables.proofs.word.merge.Goals as goal
 
-pub returns-then-op-eq-UNION : goal.returns-then-op-eq-UNION
-returns-then-op-eq-UNION c = merge_or _ _ _ c.ranges.a.fits c.ranges.b.fits c.if-op-eq-UNION.true
+pub returns-in-Union : goal.returns-in-Union
+returns-in-Union c = rw c.in-Union.is (merge_or _ _ c.ranges.a.fits c.ranges.b.fits)
 
-pub returns-then-op-eq-INTERSECTION : goal.returns-then-op-eq-INTERSECTION
-returns-then-op-eq-INTERSECTION c = merge_and _ _ _ c.ranges.a.fits c.ranges.b.fits c.if-op-eq-INTERSECTION.true
+pub returns-in-Intersection : goal.returns-in-Intersection
+returns-in-Intersection c = rw c.in-Intersection.is (merge_and _ _ c.ranges.a.fits c.ranges.b.fits)
 
-pub returns : goal.returns
-returns c = merge_not _ _ _ c.ranges.a.fits c.ranges.b.fits c.if-op-eq-UNION.false c.if-op-eq-INTERSECTION.false
+pub returns-in-Difference : goal.returns-in-Difference
+returns-in-Difference c = rw c.in-Difference.is (merge_not _ _ c.ranges.a.fits c.ranges.b.fits)
