@@ -12,9 +12,13 @@ as_test path = cond path (unary 8 ∷ []) []
 abbrev pub node_step : ℕ → Item
 node_step a = leaf 0 a 65534
 
+-- the kinds of the gaps 0 to 9
+abbrev pub joints : List ℕ
+joints = (11 ∷ 10 ∷ 14 ∷ 2 ∷ 3 ∷ 4 ∷ 1 ∷ 1 ∷ 7 ∷ 1 ∷ [])
+
 -- what a gap becomes when it closes: operators by their kinds, a leading slash 'from the root'
 abbrev pub gap_item : ℕ → Item
-gap_item k = cond (eqb k 8) (unary 7) (binary (get_or (11 ∷ 10 ∷ 14 ∷ 2 ∷ 3 ∷ 4 ∷ 1 ∷ 1 ∷ 7 ∷ 1 ∷ []) k 0))
+gap_item k = cond (eqb k 8) (unary 7) (binary (get_or joints k 0))
 
 -- with a path or a node expression standing in it; only ' or ' and ' and ' join node expressions
 abbrev pub gap_items : ℕ → Bool → List Item

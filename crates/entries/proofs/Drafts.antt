@@ -1,16 +1,15 @@
 -- Laws for the code: stores, and items appended by them.
 use Prim.Native.Nat.{ℕ, suc, ◌+◌, ◌-◌, ◌*◌, ◌≤◌, ◌<◌, max}
 use native.Mathlib.Omega.{arith}
-use mathlib.Core.Path.{◌≡◌, refl, sym, ap, ◌∙◌, subst}
-use mathlib.Core.Bool.{true, false, ◌||◌, cond}
+use mathlib.Core.Path.{◌≡◌, sym, ap, ◌∙◌, subst}
+use mathlib.Core.Bool.{cond}
 use mathlib.Core.List.{List, [], ◌∷◌, append_assoc}
 use lib.ListN.{length, get_or, set, take, drop, length-set}
 use lib.Seq.{sets-eq, length-sets}
-use lib.Dec.{ltb, eqb}
+use lib.Dec.{ltb}
 use borrow.Author.Tests.{ltb-true, lt-ltb, le-ltb}
 use Rattle.model.specs.Kinds.{names_variable}
 use Rattle.model.proofs.Booleans.{Seen, yes!, no!, seen}
-use Rattle.model.proofs.KindTests.{names_variable_by}
 use Rattle.model.specs.Encoding.{entry4}
 use Rattle.entries.specs.declared.Draft.{Draft}
 use Rattle.entries.specs.Postfix.{Item, Made, put, entered, full, past, operand, needing, append, append_all, made, Sound, Wrote}
@@ -60,64 +59,58 @@ pub wrote_one : (i : Item) (m n : Made) → n ≡ append i m → Sound m → Wro
 unfolding append_all
 wrote_one i m n e w = record { whole = e; sound = subst Sound (sym e) (append_sound i m w) }
 
--- the variables that are needed
-pub needed_variable : (c k l w r : ℕ) → r ≡ max c (w + 1) → w ≡ l → (eqb k 6 || eqb k 12) ≡ true → r ≡ max c (cond (names_variable k) (suc l) 0)
-needed_variable c k l w r e p h = rw (names_variable_by k, h) (omega arith)
-
-pub needed_none : (c k l : ℕ) → (eqb k 6 || eqb k 12) ≡ false → c ≡ max c (cond (names_variable k) (suc l) 0)
-needed_none c k l h = rw (names_variable_by k, h) (omega arith)
-
-pub entered_is : (d : Draft) (t o t' : List ℕ) (k l r g at : ℕ) → t' ≡ put (4 * d.entries) (entry4 k l r g) t
-    → made (record { entries = d.entries + 1; depth = at + 1; columns = d.columns }) t' (set o at d.entries) ≡ entered k l r g at (made d t o)
-entered_is d t o t' k l r g at e = ap (λ (u : List ℕ). made (record { entries = d.entries + 1; depth = at + 1; columns = d.columns }) u (set o at d.entries)) e
+pub entered_is : (d : Draft) (t o : List ℕ) (k l r g at : ℕ) → 4 * d.entries + 4 ≤ length t
+    → made (record { entries = d.entries + 1; depth = at + 1; columns = d.columns })
+    (set (set (set (set t (4 * d.entries) k) (4 * d.entries + 1) l) (4 * d.entries + 2) r) (4 * d.entries + 3) g) (set o at d.entries)
+    ≡ entered k l r g at (made d t o)
+entered_is d t o k l r g at h =
+    ap (λ (u : List ℕ). made (record { entries = d.entries + 1; depth = at + 1; columns = d.columns }) u (set o at d.entries)) (put_stores t (4 * d.entries) k l r g h)
 
 -- the three kinds of items, where there is room for an entry more and where there is none
 module _ (d : Draft) (t o : List ℕ) (s : Sound (made d t o)) where
-  pub leaf_room : (k l g c : ℕ) (m : Made)
-      → m ≡ entered k l 0 g d.depth (made (record { entries = d.entries; depth = d.depth; columns = c }) t o)
-      → c ≡ max d.columns (cond (names_variable k) (suc l) 0) → d.entries < 64 → Wrote (Item.leaf k l g ∷ []) (made d t o) m
-  unfolding append
-  leaf_room k l g c m e p h =
-      wrote_one (Item.leaf k l g) (made d t o) m
-      (rw (lt-ltb d.entries 64 h) (e ∙ ap (λ (c : ℕ). entered k l 0 g d.depth (made (record { entries = d.entries; depth = d.depth; columns = c }) t o)) p)) s
+  wrote_item : (i : Item) (n : Made) → n ≡ append i (made d t o) → Wrote (i ∷ []) (made d t o) n
+  wrote_item i n e = wrote_one i (made d t o) n e s
 
-  pub leaf_full : (k l g c : ℕ) (r : Draft) → r ≡ past (record { entries = d.entries; depth = d.depth; columns = c })
-      → c ≡ max d.columns (cond (names_variable k) (suc l) 0) → 64 ≤ d.entries → Wrote (Item.leaf k l g ∷ []) (made d t o) (made r t o)
+  pub leaf_room : (k l g c : ℕ) (n : Made)
+      → n ≡ entered k l 0 g d.depth (made (record { entries = d.entries; depth = d.depth; columns = c }) t o)
+      → c ≡ max d.columns (cond (names_variable k) (suc l) 0) → d.entries < 64 → Wrote (Item.leaf k l g ∷ []) (made d t o) n
   unfolding append
-  leaf_full k l g c r e p h =
-      wrote_one (Item.leaf k l g) (made d t o) (made r t o)
-      (rw (le-ltb d.entries 64 h) (ap (λ (r : Draft). made r t o) (e ∙ ap (λ (c : ℕ). past (record { entries = d.entries; depth = d.depth; columns = c })) p))) s
+  leaf_room k l g c n e p h =
+      wrote_item (Item.leaf k l g) n
+      (rw (lt-ltb d.entries 64 h) (e ∙ ap (λ (c : ℕ). entered k l 0 g d.depth (made (record { entries = d.entries; depth = d.depth; columns = c }) t o)) p))
 
-  pub unary_room : (k at l : ℕ) (m : Made) → m ≡ entered k l 0 0 at (made d t o) → l ≡ get_or o at 0 → at ≡ d.depth - 1 → d.entries < 64
-      → Wrote (Item.unary k ∷ []) (made d t o) m
+  pub leaf_full : (k l g c : ℕ) → c ≡ max d.columns (cond (names_variable k) (suc l) 0) → 64 ≤ d.entries
+      → Wrote (Item.leaf k l g ∷ []) (made d t o) (made (past (record { entries = d.entries; depth = d.depth; columns = c })) t o)
   unfolding append
-  unary_room k at l m e p q h =
+  leaf_full k l g c p h =
+      wrote_item (Item.leaf k l g) _
+      (rw (le-ltb d.entries 64 h) (ap (λ (c : ℕ). made (past (record { entries = d.entries; depth = d.depth; columns = c })) t o) p))
+
+  pub unary_room : (k at l : ℕ) (n : Made) → n ≡ entered k l 0 0 at (made d t o) → l ≡ get_or o at 0 → at ≡ d.depth - 1 → d.entries < 64
+      → Wrote (Item.unary k ∷ []) (made d t o) n
+  unfolding append
+  unary_room k at l n e p q h =
       let p' : l ≡ get_or o (d.depth - 1) 0 = p ∙ ap (λ (i : ℕ). get_or o i 0) q in
-      wrote_one (Item.unary k) (made d t o) m
-      (rw (lt-ltb d.entries 64 h) (e ∙ ap (λ (i : ℕ). entered k l 0 0 i (made d t o)) q ∙ ap (λ (l : ℕ). entered k l 0 0 (d.depth - 1) (made d t o)) p')) s
+      wrote_item (Item.unary k) n
+      (rw (lt-ltb d.entries 64 h) (e ∙ ap (λ (i : ℕ). entered k l 0 0 i (made d t o)) q ∙ ap (λ (l : ℕ). entered k l 0 0 (d.depth - 1) (made d t o)) p'))
 
-  pub binary_room : (k at top l r : ℕ) (m : Made) → m ≡ entered k l r 0 at (made d t o) → l ≡ get_or o at 0 → r ≡ get_or o top 0 → at ≡ d.depth - 2 → top ≡ d.depth - 1
-      → d.entries < 64 → Wrote (Item.binary k ∷ []) (made d t o) m
+  pub binary_room : (k at top l r : ℕ) (n : Made) → n ≡ entered k l r 0 at (made d t o) → l ≡ get_or o at 0 → r ≡ get_or o top 0 → at ≡ d.depth - 2 → top ≡ d.depth - 1
+      → d.entries < 64 → Wrote (Item.binary k ∷ []) (made d t o) n
   unfolding append
-  binary_room k at top l r m e p p₁ q q₁ h =
+  binary_room k at top l r n e p p₁ q q₁ h =
       let p' : l ≡ get_or o (d.depth - 2) 0 = p ∙ ap (λ (i : ℕ). get_or o i 0) q in
       let r' : r ≡ get_or o (d.depth - 1) 0 = p₁ ∙ ap (λ (i : ℕ). get_or o i 0) q₁ in
-      wrote_one (Item.binary k) (made d t o) m
+      wrote_item (Item.binary k) n
       (rw (lt-ltb d.entries 64 h)
       (e
       ∙ ap (λ (i : ℕ). entered k l r 0 i (made d t o)) q
       ∙ ap (λ (l : ℕ). entered k l r 0 (d.depth - 2) (made d t o)) p'
-      ∙ ap (λ (r : ℕ). entered k (get_or o (d.depth - 2) 0) r 0 (d.depth - 2) (made d t o)) r')) s
+      ∙ ap (λ (r : ℕ). entered k (get_or o (d.depth - 2) 0) r 0 (d.depth - 2) (made d t o)) r'))
 
-  -- an operator's item, x what it comes to where there is room
-  full_one : (i : Item) (x : Made) (r : Draft) → append i (made d t o) ≡ cond (ltb d.entries 64) x (full (made d t o)) → r ≡ past d → 64 ≤ d.entries
-      → Wrote (i ∷ []) (made d t o) (made r t o)
-  full_one i x r q e h = wrote_one i (made d t o) (made r t o) (ap (λ (r : Draft). made r t o) e ∙ sym (q ∙ rw (le-ltb d.entries 64 h))) s
-
-  pub unary_full : (k : ℕ) (r : Draft) → r ≡ past d → 64 ≤ d.entries → Wrote (Item.unary k ∷ []) (made d t o) (made r t o)
+  pub unary_full : (k : ℕ) → 64 ≤ d.entries → Wrote (Item.unary k ∷ []) (made d t o) (made (past d) t o)
   unfolding append
-  unary_full k r = full_one (Item.unary k) _ r refl
+  unary_full k h = wrote_item (Item.unary k) _ (rw (le-ltb d.entries 64 h))
 
-  pub binary_full : (k : ℕ) (r : Draft) → r ≡ past d → 64 ≤ d.entries → Wrote (Item.binary k ∷ []) (made d t o) (made r t o)
+  pub binary_full : (k : ℕ) → 64 ≤ d.entries → Wrote (Item.binary k ∷ []) (made d t o) (made (past d) t o)
   unfolding append
-  binary_full k r = full_one (Item.binary k) _ r refl
+  binary_full k h = wrote_item (Item.binary k) _ (rw (le-ltb d.entries 64 h))

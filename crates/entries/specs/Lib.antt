@@ -1,2 +1,3 @@
 pub mod Postfix
 pub mod Size
+pub mod Builder

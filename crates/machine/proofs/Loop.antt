@@ -11,8 +11,6 @@ use lib.Dec.{ltb, eqb}
 use borrow.Author.Tests.{eq-eqb, ne_eqb}
 use Rattle.model.proofs.Booleans.{no_yes}
 use Rattle.machine.specs.declared.Move.{Move}
-use Rattle.machine.specs.declared.Turn.{Turn}
-use Rattle.machine.specs.declared.Turn.TheVariants.{Go, Halt}
 use Rattle.grammar.specs.Online.{Place, run, feed, reach, is_dead}
 use Rattle.grammar.specs.Online.Place.{dead, between, within}
 use Rattle.grammar.specs.Grammar.{Expr}
@@ -22,7 +20,8 @@ use Rattle.grammar.specs.Automaton.Frame.{left, lead, paren, negation, test}
 use Rattle.grammar.specs.Automaton.Focus.{want, axis, have}
 use Rattle.grammar.specs.Automaton.State.{state}
 use Rattle.grammar.specs.Automaton.Outcome.{accepted, refused}
-use Rattle.machine.specs.Machine.{codes_in, codes, focus_code, binds, pops, pushed, moved, stack_of, turn_of, may_end}
+use Rattle.std.specs.Prelude.{Err}
+use Rattle.machine.specs.Machine.{Turn, reads, codes_in, codes, focus_code, binds, pops, pushed, moved, stack_of, turn_of, may_end}
 use Rattle.grammar.proofs.Online.{Good, run_append, run_dead, reach_most}
 use Rattle.grammar.proofs.Soundness.{After, good}
 use Rattle.grammar.proofs.Choices.{Taken}
@@ -82,20 +81,20 @@ module _ (text stack : List ℕ) (depth f at : ℕ) (w : At text stack depth f a
       subst (λ (t : List ℕ). Turned w.here t r) (sym d)
       (subst (λ (u : Turn). Turned w.here (get_or text at 0 ∷ drop (suc at) text) u) (sym q) (turned w.here (take at text) at_after (get_or text at 0) (drop (suc at) text)))
 
-  halted : (r : Turn) (p : ℕ) → at < length text → r ≡ turn_of f (stack_of stack depth) (drop at text) → r ≡ Halt p → Halts w.here (drop at text) p
+  halted : (r : Turn) (p : ℕ) → at < length text → r ≡ turn_of f (stack_of stack depth) (drop at text) → r ≡ Err p → Halts w.here (drop at text) p
   halted r p h e s = subst (λ (u : Turn). Turned w.here (drop at text) u) s (turn_here r h e)
 
-  pub halt_fits : (r : Turn) (p : ℕ) → at < length text → r ≡ turn_of f (stack_of stack depth) (drop at text) → r ≡ Halt p → at + p ≤ length text
+  pub halt_fits : (r : Turn) (p : ℕ) → at < length text → r ≡ turn_of f (stack_of stack depth) (drop at text) → r ≡ Err p → at + p ≤ length text
   halt_fits r p h e s =
       let k = (halted r p h e s).after in
       let m = reach_most next (drop at text) (between w.here) in
       let l = length-drop at text in
       omega arith
 
-  pub halt_place : (r : Turn) (p : ℕ) → at < length text → r ≡ turn_of f (stack_of stack depth) (drop at text) → r ≡ Halt p → at + p ≡ stops_at text
+  pub halt_place : (r : Turn) (p : ℕ) → at < length text → r ≡ turn_of f (stack_of stack depth) (drop at text) → r ≡ Err p → at + p ≡ stops_at text
   halt_place r p h e s = sym (whole_reach ∙ ap (λ (n : ℕ). at + n) (halted r p h e s).after)
 
-  pub halt_unread : (r : Turn) (p : ℕ) → at < length text → r ≡ turn_of f (stack_of stack depth) (drop at text) → r ≡ Halt p → false ≡ readable text
+  pub halt_unread : (r : Turn) (p : ℕ) → at < length text → r ≡ turn_of f (stack_of stack depth) (drop at text) → r ≡ Err p → false ≡ readable text
   unfolding readable
   halt_unread r p h e s =
       sym (ap (λ (q : Place State). is_accepted (outcome_of q)) whole_run ∙ none (run next (between w.here) (drop at text)) (halted r p h e s).unread)
@@ -142,19 +141,19 @@ push_set a d v h = go (ltb v 14)
     go false = let e : d + 0 ≡ d = omega arith in rw e (set_above a d v d (omega arith))
 
 module _ (text stack : List ℕ) (depth f at : ℕ) (w : At text stack depth f at) where
-  went : (r : Turn) (k : ℕ) (m : Move) (n : ℕ) → at < length text → r ≡ turn_of f (stack_of stack depth) (drop at text) → r ≡ Go k m n → Goes w.here (drop at text) k m n
+  went : (r : Turn) (k : ℕ) (m : Move) (n : ℕ) → at < length text → r ≡ turn_of f (stack_of stack depth) (drop at text) → r ≡ reads k m n → Goes w.here (drop at text) k m n
   went r k m n h e s = subst (λ (u : Turn). Turned w.here (drop at text) u) s (turn_here text stack depth f at w r h e)
 
-  pub go_fits : (r : Turn) (k : ℕ) (m : Move) (n : ℕ) → at < length text → r ≡ turn_of f (stack_of stack depth) (drop at text) → r ≡ Go k m n → (1 ≤ n) × (at + n ≤ length text)
+  pub go_fits : (r : Turn) (k : ℕ) (m : Move) (n : ℕ) → at < length text → r ≡ turn_of f (stack_of stack depth) (drop at text) → r ≡ reads k m n → (1 ≤ n) × (at + n ≤ length text)
   go_fits r k m n h e s =
       let g = went r k m n h e s in
       let a = g.some in let b = g.within' in let l = length-drop at text in
       (a, omega arith)
 
-  pub go_some : (r : Turn) (k : ℕ) (m : Move) (n : ℕ) → at < length text → r ≡ turn_of f (stack_of stack depth) (drop at text) → r ≡ Go k m n → 1 ≤ n
+  pub go_some : (r : Turn) (k : ℕ) (m : Move) (n : ℕ) → at < length text → r ≡ turn_of f (stack_of stack depth) (drop at text) → r ≡ reads k m n → 1 ≤ n
   go_some r k m n h e s = (go_fits r k m n h e s).0
 
-  pub go_within : (r : Turn) (k : ℕ) (m : Move) (n : ℕ) → at < length text → r ≡ turn_of f (stack_of stack depth) (drop at text) → r ≡ Go k m n → at + n ≤ length text
+  pub go_within : (r : Turn) (k : ℕ) (m : Move) (n : ℕ) → at < length text → r ≡ turn_of f (stack_of stack depth) (drop at text) → r ≡ reads k m n → at + n ≤ length text
   go_within r k m n h e s = (go_fits r k m n h e s).1
 
   -- the machine then stands where the word k has led
@@ -163,7 +162,7 @@ module _ (text stack : List ℕ) (depth f at : ℕ) (w : At text stack depth f a
     pub taken : Taken w.here k next.here
 
   pub at_go : (r : Turn) (k : ℕ) (m : Move) (n keep deep : ℕ) (next-stack : List ℕ) → at < length text → length text ≤ 1024
-      → r ≡ turn_of f (stack_of stack depth) (drop at text) → r ≡ Go k m n
+      → r ≡ turn_of f (stack_of stack depth) (drop at text) → r ≡ reads k m n
       → keep ≡ depth - m.pops → next-stack ≡ set stack keep m.push → deep ≡ keep + cond (ltb m.push 14) 1 0
       → Went k next-stack deep m.focus (at + n)
   at_go r k m n keep deep next-stack h big e s kept t d =

@@ -10,8 +10,7 @@ use lib.Dec.{leb, ltb, eqb}
 use borrow.Author.Tests.{eqb-true, ne_eqb, ltb-true, ltb-false, lt-ltb}
 use Rattle.model.proofs.Booleans.{no_yes, yes_left, yes_right}
 use Rattle.model.specs.Lists.{equal}
-use Rattle.words.specs.declared.Scan.{Scan}
-use Rattle.words.specs.declared.Scan.TheVariants.{Word, Stop}
+use Rattle.std.specs.Prelude.{Result, Ok, Err}
 use Rattle.machine.specs.declared.Move.{Move}
 use Rattle.words.specs.Words.{common, slot, greater, scan_from, all_words, word_table}
 use Rattle.grammar.specs.Grammar.{Expr, Op, ascii, elem, axes, axis_word, variables, name_bytes, is_name, level, left_level, logical, makes_test, fits}
@@ -26,9 +25,7 @@ use Rattle.grammar.specs.Automaton.{Frame, State, takes_test, opened, closed, is
 use Rattle.grammar.specs.Automaton.Frame.{left, lead, paren, negation, test}
 use Rattle.grammar.specs.Automaton.Focus.{want, axis, have}
 use Rattle.grammar.specs.Automaton.State.{state}
-use Rattle.machine.specs.Machine.{op_code, is_slash, codes_in, codes, letter_focus, letters_focus, name_focus, focus_code, top, takes, slashes, binds, pops, sort, mv, pushed, moved, want_may, slash_move, want_move, have_may, have_move, of_scan, letter_turn, have_turn, turn_of}
-use Rattle.machine.specs.declared.Turn.{Turn}
-use Rattle.machine.specs.declared.Turn.TheVariants.{Go, Halt}
+use Rattle.machine.specs.Machine.{Turn, reads, op_code, is_slash, codes_in, codes, letter_focus, letters_focus, name_focus, focus_code, top, takes, slashes, binds, pops, sort, mv, pushed, moved, want_may, slash_move, want_move, have_may, have_move, of_scan, letter_turn, have_turn, turn_of}
 use Rattle.grammar.proofs.Online.{Offers, is_cons, offered_cons}
 use Rattle.grammar.proofs.Choices.{Nth, Taken}
 use Rattle.grammar.proofs.Reading.{filled, token, Reads, each_skip, each_at}
@@ -336,15 +333,15 @@ module _ (words : List ℕ) (may : List Bool) (move : ℕ → Move) (ks : List �
           erases = f.erases;
         }
 
-    scan_found : (l : List (Choice State)) (k best j : ℕ) → Matches words may move ks k l → scan_from words may t k (length l) best ≡ Word j → Found k l j
+    scan_found : (l : List (Choice State)) (k best j : ℕ) → Matches words may move ks k l → scan_from words may t k (length l) best ≡ Ok j → Found k l j
     unfolding scan_from
     scan_found [] k best j none e = let z : ◌≡◌ {A = ℕ} 0 1 = cc in absurd (omega arith)
     scan_found (choice m w x ∷ l) k best j (row fl sl er h) e =
         go (get_or may k false && eqb (common (slot words k) t) (length (slot words k))) refl e (λ p. scan_found l (suc k) _ j h p)
       where
         go : (b : Bool) → (get_or may k false && eqb (common (slot words k) t) (length (slot words k))) ≡ b
-            → cond b (Word k) (scan_from words may t (suc k) (length l) (cond (get_or may k false) (greater best (common (slot words k) t)) best)) ≡ Word j
-            → (scan_from words may t (suc k) (length l) (cond (get_or may k false) (greater best (common (slot words k) t)) best) ≡ Word j → Found (suc k) l j)
+            → cond b (Ok k) (scan_from words may t (suc k) (length l) (cond (get_or may k false) (greater best (common (slot words k) t)) best)) ≡ Ok j
+            → (scan_from words may t (suc k) (length l) (cond (get_or may k false) (greater best (common (slot words k) t)) best) ≡ Ok j → Found (suc k) l j)
             → Found k (choice m w x ∷ l) j
         go true q p ih =
             let i : k ≡ j = cc in
@@ -361,7 +358,7 @@ module _ (words : List ℕ) (may : List Bool) (move : ℕ → Move) (ks : List �
             }
         go false q p ih = later (choice m w x) l k j (ih p)
 
-    scan_stop : (l : List (Choice State)) (k best p : ℕ) → Matches words may move ks k l → scan_from words may t k (length l) best ≡ Stop p
+    scan_stop : (l : List (Choice State)) (k best p : ℕ) → Matches words may move ks k l → scan_from words may t k (length l) best ≡ Err p
         → (hits l t ≡ false) × (p ≡ greater best (most l t))
     unfolding scan_from hits most
     scan_stop [] k best p none e = (refl, (let q : best ≡ p = cc in sym q) ∙ sym (greater_is best 0 ∙ omega arith))
@@ -369,8 +366,8 @@ module _ (words : List ℕ) (may : List Bool) (move : ℕ → Move) (ks : List �
         go (get_or may k false && eqb (common (slot words k) t) (length (slot words k))) refl e (λ q. scan_stop l (suc k) _ p h q)
       where
         go : (b : Bool) → (get_or may k false && eqb (common (slot words k) t) (length (slot words k))) ≡ b
-            → cond b (Word k) (scan_from words may t (suc k) (length l) (cond (get_or may k false) (greater best (common (slot words k) t)) best)) ≡ Stop p
-            → (scan_from words may t (suc k) (length l) (cond (get_or may k false) (greater best (common (slot words k) t)) best) ≡ Stop p
+            → cond b (Ok k) (scan_from words may t (suc k) (length l) (cond (get_or may k false) (greater best (common (slot words k) t)) best)) ≡ Err p
+            → (scan_from words may t (suc k) (length l) (cond (get_or may k false) (greater best (common (slot words k) t)) best) ≡ Err p
             → (hits l t ≡ false) × (p ≡ greater (cond (get_or may k false) (greater best (common (slot words k) t)) best) (most l t)))
             → (((m && eqb (common w t) (length w)) || hits l t) ≡ false) × (p ≡ greater best (greater (cond m (common w t) 0) (most l t)))
         go true q r ih = let z : ◌≡◌ {A = ℕ} 0 1 = cc in absurd (omega arith)
@@ -609,13 +606,13 @@ nth_at : (l : List (Choice State)) (j : ℕ) (x : State) → ((i : ℕ) × (j �
 nth_at l j x (i, e, n) = subst (λ (y : ℕ). Nth l y x) (let z : i ≡ j = omega arith in z) n
 
 module _ (fs : List Frame) (t : List ℕ) where
-  pub want_goes : (j : ℕ) → scan_from word_table (want_may (top (codes fs))) t 0 20 0 ≡ Word j
+  pub want_goes : (j : ℕ) → scan_from word_table (want_may (top (codes fs))) t 0 20 0 ≡ Ok j
       → Goes (state fs want) t j (want_move (top (codes fs)) j) (length (slot word_table j))
   want_goes j h =
       let f = scan_found word_table (want_may (top (codes fs))) (want_move (top (codes fs))) (codes fs) t (next (state fs want)) 0 0 j (matches_want fs) (unfold next each axes variables in h) in
       goes (state fs want) f.to t f.found j (want_move (top (codes fs)) j) (length (slot word_table j)) (nth_at (next (state fs want)) j f.to f.nth) f.offered (slot_front f.found t j f.slotted f.stands) (ap length f.slotted) f.erases
 
-  pub want_halts : (b p : ℕ) → scan_from word_table (want_may (top (codes fs))) (b ∷ t) 0 20 0 ≡ Stop p → Halts (state fs want) (b ∷ t) p
+  pub want_halts : (b p : ℕ) → scan_from word_table (want_may (top (codes fs))) (b ∷ t) 0 20 0 ≡ Err p → Halts (state fs want) (b ∷ t) p
   want_halts b p h =
       let w = scan_stop word_table (want_may (top (codes fs))) (want_move (top (codes fs))) (codes fs) (b ∷ t) (next (state fs want)) 0 0 p (matches_want fs) (unfold next each axes variables in h) in
       halts (state fs want) b t p w.0 (w.1 ∙ greater_zero (most (next (state fs want)) (b ∷ t)))
@@ -647,7 +644,7 @@ named_focus e p b h n =
     e n h
 
 module _ (fs : List Frame) (e : Expr) (b : ℕ) (t : List ℕ) where
-  abbrev scanned : Scan
+  abbrev scanned : Result ℕ ℕ
   scanned = scan_from word_table (have_may (focus_code (have e)) (codes fs)) (b ∷ t) 20 16 0
 
   pub name_goes : fits 7 (takes_test fs) e ≡ true → is_named e ≡ true → elem b name_bytes ≡ true
@@ -660,14 +657,14 @@ module _ (fs : List Frame) (e : Expr) (b : ℕ) (t : List ℕ) where
       refl
       (refl, named_focus e (takes_test fs) b f n)
 
-  pub have_goes : (j : ℕ) → scanned ≡ Word j → Goes (state fs (have e)) (b ∷ t) j (have_move (focus_code (have e)) (codes fs) j) (length (slot word_table j))
+  pub have_goes : (j : ℕ) → scanned ≡ Ok j → Goes (state fs (have e)) (b ∷ t) j (have_move (focus_code (have e)) (codes fs) j) (length (slot word_table j))
   unfolding next
   have_goes j h =
       let f = scan_found word_table (have_may (focus_code (have e)) (codes fs)) (have_move (focus_code (have e)) (codes fs)) (codes fs) (b ∷ t) (behind fs e) 20 0 j (matches_behind fs e) (unfold each variables in h) in
       goes (state fs (have e)) f.to (b ∷ t) f.found j (have_move (focus_code (have e)) (codes fs) j) (length (slot word_table j)) (inr f.nth)
       (each_skip (longer_choice fs e) name_bytes (behind fs e) f.found f.to f.offered) (slot_front f.found (b ∷ t) j f.slotted f.stands) (ap length f.slotted) f.erases
 
-  pub have_halts : (p : ℕ) → (is_named e && elem b name_bytes) ≡ false → scanned ≡ Stop p → Halts (state fs (have e)) (b ∷ t) p
+  pub have_halts : (p : ℕ) → (is_named e && elem b name_bytes) ≡ false → scanned ≡ Err p → Halts (state fs (have e)) (b ∷ t) p
   unfolding next
   have_halts p n h =
       let w = scan_stop word_table (have_may (focus_code (have e)) (codes fs)) (have_move (focus_code (have e)) (codes fs)) (codes fs) (b ∷ t) (behind fs e) 20 0 p (matches_behind fs e) (unfold each variables in h) in
@@ -706,8 +703,8 @@ focus_of (state fs f) = focus_code f
 
 -- what a turn says of the state
 abbrev pub Turned : State → List ℕ → Turn → Type 0
-Turned s t (Go k m n) = Goes s t k m n
-Turned s t (Halt p) = Halts s t p
+Turned s t (Ok w) = Goes s t w.number w.step w.len
+Turned s t (Err p) = Halts s t p
 
 pub past_axis : (e : Expr) → (eqb (focus_code (have e)) 0 ≡ false) × (eqb (focus_code (have e)) 1 ≡ false) × (ltb 1 (focus_code (have e)) ≡ true)
 unfolding focus_code
@@ -727,21 +724,21 @@ pub turned : (s : State) (c : List ℕ) → After s c → (b : ℕ) (t : List �
 unfolding turn_of
 turned (state fs want) c r b t = unfold focus_code in go (scan_from word_table (want_may (top (codes fs))) (b ∷ t) 0 20 0) refl
   where
-    go : (r : Scan) → scan_from word_table (want_may (top (codes fs))) (b ∷ t) 0 20 0 ≡ r → Turned (state fs want) (b ∷ t) (of_scan r (want_move (top (codes fs))))
-    go (Word k) e = want_goes fs (b ∷ t) k e
-    go (Stop p) e = want_halts fs t b p e
+    go : (r : Result ℕ ℕ) → scan_from word_table (want_may (top (codes fs))) (b ∷ t) 0 20 0 ≡ r → Turned (state fs want) (b ∷ t) (of_scan r (want_move (top (codes fs))))
+    go (Ok k) e = want_goes fs (b ∷ t) k e
+    go (Err p) e = want_halts fs t b p e
 turned (state fs (axis a)) c r b t = unfold focus_code in go (elem b name_bytes) refl (eqb b 42) refl
   where
-    go : (n : Bool) → elem b name_bytes ≡ n → (q : Bool) → eqb b 42 ≡ q → Turned (state fs (axis a)) (b ∷ t) (cond n (letter_turn 1 b) (cond q (Go 37 (mv 3 0 14) 1) (Halt 0)))
+    go : (n : Bool) → elem b name_bytes ≡ n → (q : Bool) → eqb b 42 ≡ q → Turned (state fs (axis a)) (b ∷ t) (cond n (letter_turn 1 b) (cond q (reads 37 (mv 3 0 14) 1) (Err 0)))
     go true e q h = first_goes fs a b t e
     go false e true h = star_goes fs a b t (eqb-true b 42 h)
     go false e false h = axis_halts fs a b t e h
 turned (state fs (have e)) c r b t = rw ((past_axis e).0, (past_axis e).1, focus_named e) (go (is_named e) refl (elem b name_bytes) refl)
   where
-    scan : (is_named e && elem b name_bytes) ≡ false → (r : Scan) → scan_from word_table (have_may (focus_code (have e)) (codes fs)) (b ∷ t) 20 16 0 ≡ r
+    scan : (is_named e && elem b name_bytes) ≡ false → (r : Result ℕ ℕ) → scan_from word_table (have_may (focus_code (have e)) (codes fs)) (b ∷ t) 20 16 0 ≡ r
         → Turned (state fs (have e)) (b ∷ t) (of_scan r (have_move (focus_code (have e)) (codes fs)))
-    scan n (Word k) h = have_goes fs e b t k h
-    scan n (Stop p) h = have_halts fs e b t p n h
+    scan n (Ok k) h = have_goes fs e b t k h
+    scan n (Err p) h = have_halts fs e b t p n h
 
     go : (m : Bool) → is_named e ≡ m → (n : Bool) → elem b name_bytes ≡ n
         → Turned (state fs (have e)) (b ∷ t) (cond (m && n) (letter_turn (focus_code (have e)) b) (have_turn (focus_code (have e)) (codes fs) (b ∷ t)))

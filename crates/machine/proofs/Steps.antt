@@ -3,21 +3,19 @@ use Prim.Native.Nat.{ℕ, zero, suc, ◌+◌, ◌-◌, ◌≤◌, ◌<◌}
 use native.Mathlib.Omega.{arith}
 use native.Mathlib.Nat.{not-suc-le-zero}
 use mathlib.Core.Path.{◌≡◌, refl, sym, ap, ◌∙◌}
-use mathlib.Core.Bool.{Bool, true, false, not, ◌&&◌, ◌||◌, cond}
+use mathlib.Core.Bool.{Bool, true, false, not, ◌&&◌, cond}
 use mathlib.Core.List.{List, [], ◌∷◌}
 use lib.ListN.{length, drop, get_or}
 use lib.Seq.{get_or-drop}
-use lib.Dec.{leb, ltb, eqb}
-use borrow.Author.Tests.{ltb-false}
-use Rattle.model.proofs.Booleans.{no_or}
+use lib.Dec.{ltb, eqb}
 use Rattle.grammar.specs.Grammar.{elem, name_bytes}
-use Rattle.words.specs.declared.Scan.{Scan}
-use Rattle.words.specs.declared.Scan.TheVariants.{Word, Stop}
-use Rattle.machine.specs.declared.Move.{Move}
-use Rattle.machine.specs.declared.Turn.{Turn}
-use Rattle.machine.specs.declared.Turn.TheVariants.{Go, Halt}
-use Rattle.words.specs.Words.{common, slot, greater, scan_from, word_table}
-use Rattle.machine.specs.Machine.{binds, pops, sort, top, stack_of, want_may, want_move, want_turn, have_flags, have_may, have_move, have_turn, letter_turn, axis_turn, turn_of, may_end}
+use Rattle.std.specs.Prelude.{Result, Ok}
+use Rattle.words.specs.Words.{common, slot, greater, scan_from}
+use Rattle.machine.specs.Machine.{Turn, binds, pops, sort, top, stack_of, want_turn, have_flags, have_may, have_turn, letter_turn, axis_turn, turn_of, may_end}
+
+-- what stands at a place of a text
+abbrev Scan : Type 0
+Scan = Result ℕ ℕ
 
 -- the stack
 
@@ -48,114 +46,76 @@ unfolding stack_of
 stack_length a zero = refl
 stack_length a (suc d) = ap suc (stack_length a d)
 
--- the depth after a step
-
-pub depth_more : (r p d k : ℕ) → r ≡ d - p → ltb k 14 ≡ true → r + 1 ≡ d - p + cond (ltb k 14) 1 0
-depth_more r p d k e h = rw (h, e)
-
-pub depth_kept : (r p d k : ℕ) → r ≡ d - p → ltb k 14 ≡ false → r ≡ d - p + cond (ltb k 14) 1 0
-depth_kept r p d k e h = rw h (omega arith)
-
 -- closing gap after gap
 
 module _ (a : List ℕ) (d n : ℕ) (path : Bool) where
-  -- left of the d gaps are still to see, and p says whether a path stands in the innermost
-  pub record Closed (left : ℕ) (p : Bool) : Type 0 where
-    pub most : left ≤ d
-    pub count : pops n (stack_of a d) ≡ d - left + pops n (stack_of a left)
-    pub sorted : sort n (stack_of a d) path ≡ sort n (stack_of a left) p
+  -- i of the d gaps have closed, and p says whether a path stands in the innermost that is left
+  pub record Closed (i : ℕ) (p : Bool) : Type 0 where
+    pub most : i ≤ d
+    pub count : pops n (stack_of a d) ≡ i + pops n (stack_of a (d - i))
+    pub sorted : sort n (stack_of a d) path ≡ sort n (stack_of a (d - i)) p
 
-  pub closed_start : Closed d path
-  closed_start = record { most = omega arith; count = omega arith; sorted = refl }
+  pub closed_start : Closed 0 path
+  closed_start = let e : d - 0 ≡ d = omega arith in record { most = omega arith; count = rw e (omega arith); sorted = rw e }
 
-  pub closed_on : (left k : ℕ) (p : Bool) → Closed left p → 0 < left → k ≡ get_or a (left - 1) 0 → binds n k ≡ true → Closed (left - 1) (not (ltb k 3))
+  pub next_gap : (i k : ℕ) → i < d → k ≡ get_or a (d - 1 - i) 0 → stack_of a (d - i) ≡ k ∷ stack_of a (d - (i + 1))
+  next_gap i k h e =
+      let x : d - i - 1 ≡ d - 1 - i = omega arith in
+      let y : d - i - 1 ≡ d - (i + 1) = omega arith in
+      stack_some a (d - i) (omega arith)
+      ∙ ap (λ (j : ℕ). get_or a j 0 ∷ stack_of a (d - i - 1)) x
+      ∙ ap (λ (g : ℕ). g ∷ stack_of a (d - i - 1)) (sym e)
+      ∙ ap (λ (j : ℕ). k ∷ stack_of a j) y
+
+  pub closed_on : (i k : ℕ) (p : Bool) → Closed i p → i < d → k ≡ get_or a (d - 1 - i) 0 → binds n k ≡ true → Closed (i + 1) (not (ltb k 3))
   unfolding pops sort
-  closed_on left k p w h e b =
-      let s : stack_of a left ≡ k ∷ stack_of a (left - 1) = stack_some a left h ∙ ap (λ (i : ℕ). i ∷ stack_of a (left - 1)) (sym e) in
-      let c : pops n (stack_of a left) ≡ suc (pops n (stack_of a (left - 1))) = ap (pops n) s ∙ rw b in
-      let q : sort n (stack_of a left) p ≡ sort n (stack_of a (left - 1)) (not (ltb k 3)) = ap (λ (l : List ℕ). sort n l p) s ∙ rw b in
-      let m = w.most in let t = w.count in
+  closed_on i k p w h e b =
+      let s = next_gap i k h e in
+      let c : pops n (stack_of a (d - i)) ≡ suc (pops n (stack_of a (d - (i + 1)))) = ap (pops n) s ∙ rw b in
+      let q : sort n (stack_of a (d - i)) p ≡ sort n (stack_of a (d - (i + 1))) (not (ltb k 3)) = ap (λ (l : List ℕ). sort n l p) s ∙ rw b in
+      let t = w.count in
       record { most = omega arith; count = omega arith; sorted = w.sorted ∙ q }
 
   -- what a closing that stops here comes to
-  abbrev pub Result : ℕ → Bool → Type 0
-  Result r p = (r ≡ pops n (stack_of a d)) × (p ≡ sort n (stack_of a d) path) × (r ≤ d)
+  abbrev pub Closes : ℕ → Bool → Type 0
+  Closes r p = (r ≡ pops n (stack_of a d)) × (p ≡ sort n (stack_of a d) path) × (r ≤ d)
 
-  pub closed_stop : (left k : ℕ) (p : Bool) → Closed left p → 0 < left → k ≡ get_or a (left - 1) 0 → binds n k ≡ false → Result (d - left) p
+  pub closed_stop : (i k : ℕ) (p : Bool) → Closed i p → i < d → k ≡ get_or a (d - 1 - i) 0 → binds n k ≡ false → Closes i p
   unfolding pops sort
-  closed_stop left k p w h e b =
-      let s : stack_of a left ≡ k ∷ stack_of a (left - 1) = stack_some a left h ∙ ap (λ (i : ℕ). i ∷ stack_of a (left - 1)) (sym e) in
-      let c : pops n (stack_of a left) ≡ 0 = ap (pops n) s ∙ rw b in
-      let q : sort n (stack_of a left) p ≡ p = ap (λ (l : List ℕ). sort n l p) s ∙ rw b in
+  closed_stop i k p w h e b =
+      let s = next_gap i k h e in
+      let c : pops n (stack_of a (d - i)) ≡ 0 = ap (pops n) s ∙ rw b in
+      let q : sort n (stack_of a (d - i)) p ≡ p = ap (λ (l : List ℕ). sort n l p) s ∙ rw b in
       let t = w.count in
-      (omega arith, sym (w.sorted ∙ q), omega arith)
+      (omega arith, sym (w.sorted ∙ q), w.most)
 
-  pub closed_end : (left : ℕ) (p : Bool) → Closed left p → left ≤ 0 → Result (d - left) p
+  pub closed_end : (i : ℕ) (p : Bool) → Closed i p → d ≤ i → Closes d p
   unfolding pops sort stack_of
-  closed_end left p w h =
-      let z : left ≡ 0 = omega arith in
-      let c : pops n (stack_of a left) ≡ 0 = rw z in
-      let q : sort n (stack_of a left) p ≡ p = rw z in
-      let t = w.count in
+  closed_end i p w h =
+      let z : d - i ≡ 0 = omega arith in
+      let c : pops n (stack_of a (d - i)) ≡ 0 = rw z in
+      let q : sort n (stack_of a (d - i)) p ≡ p = rw z in
+      let t = w.count in let m = w.most in
       (omega arith, sym (w.sorted ∙ q), omega arith)
 
 pub end_test : (f p d : ℕ) (a : List ℕ) → p ≡ pops 0 (stack_of a d) → (ltb 1 f && eqb p d) ≡ may_end f (stack_of a d)
 end_test f p d a e = rw (stack_length a d, e)
 
--- whether a gap closes
-pub closes_yes : (n k g : ℕ) → g ≡ k → ltb g 10 ≡ true → leb n (get_or (0 ∷ 1 ∷ 2 ∷ 3 ∷ 4 ∷ 4 ∷ 6 ∷ 6 ∷ 5 ∷ 6 ∷ []) g 0) ≡ binds n k
-closes_yes n k g e h = rw (sym e, h)
-
-pub closes_no : (n k g : ℕ) → g ≡ k → ltb g 10 ≡ false → false ≡ binds n k
-closes_no n k g e h = rw (sym e, h)
-
--- '()' and '*' are the last words
-pub below_34 : (k : ℕ) → (eqb k 23 || ltb 33 k) ≡ false → k < 34
-below_34 k h = let n : k ≤ 33 = ltb-false 33 k (no_or (eqb k 23) (ltb 33 k) h).1 in omega arith
-
 -- turns
 
-scan_below : (n : ℕ) (words : List ℕ) (may : List Bool) (t : List ℕ) (lo best k : ℕ) → scan_from words may t lo n best ≡ Word k → k < lo + n
+scan_below : (n : ℕ) (words : List ℕ) (may : List Bool) (t : List ℕ) (lo best k : ℕ) → scan_from words may t lo n best ≡ Ok k → k < lo + n
 unfolding scan_from
 scan_below zero words may t lo best k h = let z : ◌≡◌ {A = ℕ} 0 1 = cc in absurd (omega arith)
 scan_below (suc n) words may t lo best k h =
     go (get_or may lo false && eqb (common (slot words lo) t) (length (slot words lo))) h (λ p. scan_below n words may t (suc lo) _ k p)
   where
-    go : (b : Bool) → cond b (Word lo) (scan_from words may t (suc lo) n (cond (get_or may lo false) (greater best (common (slot words lo) t)) best)) ≡ Word k
-        → (scan_from words may t (suc lo) n (cond (get_or may lo false) (greater best (common (slot words lo) t)) best) ≡ Word k → k < suc lo + n) → k < lo + suc n
+    go : (b : Bool) → cond b (Ok lo) (scan_from words may t (suc lo) n (cond (get_or may lo false) (greater best (common (slot words lo) t)) best)) ≡ Ok k
+        → (scan_from words may t (suc lo) n (cond (get_or may lo false) (greater best (common (slot words lo) t)) best) ≡ Ok k → k < suc lo + n) → k < lo + suc n
     go true p ih = let e : lo ≡ k = cc in omega arith
     go false p ih = let w = ih p in omega arith
 
-pub word_below : (words : List ℕ) (may : List Bool) (t : List ℕ) (lo hi k : ℕ) (r : Scan) → r ≡ Word k → r ≡ scan_from words may t lo (hi - lo) 0 → lo ≤ hi → hi ≤ 36 → k < 36
+pub word_below : (words : List ℕ) (may : List Bool) (t : List ℕ) (lo hi k : ℕ) (r : Scan) → r ≡ Ok k → r ≡ scan_from words may t lo (hi - lo) 0 → lo ≤ hi → hi ≤ 36 → k < 36
 word_below words may t lo hi k r e s l h = let w = scan_below (hi - lo) words may t lo 0 k (sym s ∙ e) in omega arith
-
-pub want_word : (ks t : List ℕ) (g k len : ℕ) (may : List Bool) (r : Scan) (m : Move)
-    → r ≡ Word k → r ≡ scan_from word_table may t 0 20 0 → may ≡ want_may g → g ≡ top ks → m ≡ want_move g k → len ≡ length (slot word_table k) → Go k m len ≡ want_turn ks t
-want_word ks t g k len may r m e s f p q l =
-    let z : scan_from word_table (want_may (top ks)) t 0 20 0 ≡ Word k = ap (λ (i : ℕ). scan_from word_table (want_may i) t 0 20 0) (sym p) ∙ ap (λ (b : List Bool). scan_from word_table b t 0 20 0) (sym f) ∙ sym s ∙ e in
-    let y : m ≡ want_move (top ks) k = q ∙ ap (λ (i : ℕ). want_move i k) p in
-    rw (z, y, l)
-
-pub want_stop : (ks t : List ℕ) (g p : ℕ) (may : List Bool) (r : Scan)
-    → r ≡ Stop p → r ≡ scan_from word_table may t 0 20 0 → may ≡ want_may g → g ≡ top ks → Halt p ≡ want_turn ks t
-want_stop ks t g p may r e s f h =
-    let z : scan_from word_table (want_may (top ks)) t 0 20 0 ≡ Stop p = ap (λ (i : ℕ). scan_from word_table (want_may i) t 0 20 0) (sym h) ∙ ap (λ (b : List Bool). scan_from word_table b t 0 20 0) (sym f) ∙ sym s ∙ e in
-    rw z
-
-pub have_word : (f : ℕ) (ks t : List ℕ) (k len : ℕ) (may : List Bool) (r : Scan) (m : Move)
-    → r ≡ Word k → r ≡ scan_from word_table may t 20 16 0 → may ≡ have_may f ks → m ≡ have_move f ks k → len ≡ length (slot word_table k) → Go k m len ≡ have_turn f ks t
-have_word f ks t k len may r m e s a q l =
-    let z : scan_from word_table (have_may f ks) t 20 16 0 ≡ Word k = ap (λ (b : List Bool). scan_from word_table b t 20 16 0) (sym a) ∙ sym s ∙ e in
-    rw (z, q, l)
-
-pub have_stop : (f : ℕ) (ks t : List ℕ) (p : ℕ) (may : List Bool) (r : Scan)
-    → r ≡ Stop p → r ≡ scan_from word_table may t 20 16 0 → may ≡ have_may f ks → Halt p ≡ have_turn f ks t
-have_stop f ks t p may r e s a =
-    let z : scan_from word_table (have_may f ks) t 20 16 0 ≡ Stop p = ap (λ (b : List Bool). scan_from word_table b t 20 16 0) (sym a) ∙ sym s ∙ e in
-    rw z
-
-pub gap_after : (n p r : ℕ) (ks : List ℕ) → r ≡ top (drop p ks) → p ≡ pops n ks → r ≡ top (drop (pops n ks) ks)
-gap_after n p r ks e h = e ∙ ap (λ (i : ℕ). top (drop i ks)) h
 
 pub follow : (f o i b p : ℕ) (ks : List ℕ) (r : List Bool) → r ≡ have_flags f o i b p → o ≡ top ks → i ≡ top (drop (pops 0 ks) ks) → b ≡ top (drop (pops 1 ks) ks) → p ≡ top (drop (pops 3 ks) ks)
     → r ≡ have_may f ks

@@ -1,10 +1,8 @@
 -- The reading of typed queries as the code does it: a focus and a stack of bytes in place of expressions.
 use Rattle.std.specs.Prelude.{ℕ, zero, suc, ◌-◌, Bool, true, false, not, ◌&&◌, ◌||◌, cond, List, [], ◌∷◌, ◌++◌, length, drop, get_or, replicate, leb, ltb, eqb}
 use Rattle.machine.specs.declared.Move.{Move}
-use Rattle.words.specs.declared.Scan.{Scan}
-use Rattle.words.specs.declared.Scan.TheVariants.{Word, Stop}
-use Rattle.machine.specs.declared.Turn.{Turn}
-use Rattle.machine.specs.declared.Turn.TheVariants.{Go, Halt}
+use Rattle.std.specs.Prelude.{Result, Ok, Err}
+use Rattle.machine.specs.declared.Word.{Word}
 use Rattle.words.specs.Words.{slot, scan_from, word_table}
 use Rattle.grammar.specs.Grammar.{Op, elem, name_bytes}
 use Rattle.grammar.specs.Grammar.Slash.{one, two}
@@ -165,10 +163,18 @@ unfoldable pub stack_of : List ℕ → ℕ → List ℕ
 stack_of a zero = []
 stack_of a (suc d) = get_or a d 0 ∷ stack_of a d
 
+-- a turn: the word that is read, its step and its length; or how many bytes are read before no text goes on
+abbrev pub Turn : Type 0
+Turn = Result Word ℕ
+
+-- a word is read
+abbrev pub reads : ℕ → Move → ℕ → Turn
+reads k m n = Ok (record { number = k; step = m; len = n })
+
 -- a turn: the word that is found, the step that it makes and its length; or how many bytes are read before it stops
-abbrev pub of_scan : Scan → (ℕ → Move) → Turn
-of_scan (Word k) move = Go k (move k) (length (slot word_table k))
-of_scan (Stop p) move = Halt p
+abbrev pub of_scan : Result ℕ ℕ → (ℕ → Move) → Turn
+of_scan (Ok k) move = reads k (move k) (length (slot word_table k))
+of_scan (Err p) move = Err p
 
 -- where an expression is wanted
 abbrev pub want_turn : List ℕ → List ℕ → Turn
@@ -176,11 +182,11 @@ want_turn ks t = of_scan (scan_from word_table (want_may (top ks)) t 0 20 0) (wa
 
 -- at byte b of a name: word 36
 abbrev pub letter_turn : ℕ → ℕ → Turn
-letter_turn f b = Go 36 (mv (letter_focus f b) 0 14) 1
+letter_turn f b = reads 36 (mv (letter_focus f b) 0 14) 1
 
 -- behind an axis, at byte b: a byte of a name, or the star, word 37
 abbrev pub axis_turn : ℕ → Turn
-axis_turn b = cond (elem b name_bytes) (letter_turn 1 b) (cond (eqb b 42) (Go 37 (mv 3 0 14) 1) (Halt 0))
+axis_turn b = cond (elem b name_bytes) (letter_turn 1 b) (cond (eqb b 42) (reads 37 (mv 3 0 14) 1) (Err 0))
 
 -- behind an expression, where its name goes on no longer
 abbrev pub have_turn : ℕ → List ℕ → List ℕ → Turn

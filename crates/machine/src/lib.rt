@@ -1,8 +1,8 @@
 // The reading of a typed query, turn by turn: a focus, and a stack of gaps that are still open.
 #![tactic(auto)]
 
-ghost use Rattle.std.specs.Prelude.{◌≡◌, cond, ltb, ◌+◌, ◌-◌, ◌*◌, ◌≤◌, ◌<◌, length, drop, set};
-ghost use Rattle.machine.specs.Machine.{takes, slashes, binds, pops, sort, top, stack_of, letter_focus, want_may, want_move, slash_move, have_flags, have_may, bracket_focus, close_move, join_move, have_move, want_turn, letter_turn, axis_turn, have_turn, turn_of, may_end};
+ghost use Rattle.std.specs.Prelude.{◌≡◌, cond, Ok, ltb, ◌+◌, ◌-◌, ◌*◌, ◌≤◌, ◌<◌, length, drop, set};
+ghost use Rattle.machine.specs.Machine.{mv, takes, slashes, binds, pops, sort, top, stack_of, letter_focus, want_may, want_move, slash_move, have_flags, have_may, bracket_focus, close_move, join_move, have_move, want_turn, letter_turn, axis_turn, have_turn, turn_of, may_end};
 
 // A step of the reading: the new focus, how many gaps close, and the gap that opens, or 14 (specs/Machine.antt).
 #[derive(Clone, Copy)]
@@ -12,12 +12,36 @@ pub struct Move {
     pub push: u8,
 }
 
-// A turn of the reading: the word that is read, 36 for a byte of a name and 37 for the star behind an axis, the step that it makes
-// and its length; or how many bytes are read before it stops.
-#[derive(Drop)]
-pub enum Turn {
-    Go(usize, Move, usize),
-    Halt(usize),
+impl Move {
+    // The focus moves, and no gap closes or opens.
+    fn to(focus: u8) -> Move
+        ensures { result ≡ mv focus 0 14 }
+    {
+        Move {
+            focus: focus,
+            pops: 0,
+            push: 14,
+        }
+    }
+
+    // Gaps close, and a gap opens in which an expression is wanted.
+    fn open(pops: usize, push: u8) -> Move
+        ensures { result ≡ mv 0 pops push }
+    {
+        Move {
+            focus: 0,
+            pops: pops,
+            push: push,
+        }
+    }
+}
+
+// A word that is read: its number, 36 for a byte of a name and 37 for the star behind an axis; the step that it makes; and its length.
+#[derive(Clone, Copy)]
+pub struct Word {
+    pub number: usize,
+    pub step: Move,
+    pub len: usize,
 }
 
 // What closing gaps comes to: how many close, and whether a path then stands in the innermost.
@@ -51,59 +75,57 @@ fn takes_slash(k: u8) -> bool
 pub fn closes(n: usize, k: u8) -> bool
     ensures { result ≡ binds n k }
 {
-    let gap = words::wide(k);
-    let inner = gap < 10;
-    if inner {
+    let gap = usize::from(k);
+    if gap < 10 {
         return n <= LEVELS[gap];
     }
     false
 }
 
-// Closes the gaps that bind at n or tighter. At most one turn a gap.
-fn close(stack: &[u8], depth: usize, n: usize, path: bool) -> Closing
-    requires { depth ≤ length stack.now }
-    ensures { (result.pops ≡ pops n (stack_of stack.now depth)) × (result.path ≡ sort n (stack_of stack.now depth) path) × (result.pops ≤ depth) }
+// Closes the gaps that bind at n or tighter, the innermost first. One look a gap.
+pub fn close(gaps: &[u8], n: usize, path: bool) -> Closing
+    ensures { (result.pops ≡ pops n (stack_of gaps.now (length gaps.now)))
+        × (result.path ≡ sort n (stack_of gaps.now (length gaps.now)) path)
+        × (result.pops ≤ length gaps.now) }
 {
-    let mut left = depth;
-    let mut is_path = path;
-    while 0 < left {
-        let k = stack[left - 1];
+    let depth = gaps.len();
+    let mut path = path;
+    for pops in 0..depth {
+        let k = gaps[depth - 1 - pops];
         if !closes(n, k) {
             return Closing {
-                pops: depth - left,
-                path: is_path,
+                pops: pops,
+                path: path,
             };
         }
-        is_path = !(k < 3);
-        left = left - 1;
+        path = !(k < 3);
     }
     Closing {
-        pops: depth - left,
-        path: is_path,
+        pops: depth,
+        path: path,
     }
 }
 
-// The innermost gap, where `pops` of them have closed.
-pub fn innermost(stack: &[u8], depth: usize, closed: usize) -> u8
-    requires { (depth ≤ length stack.now) × (closed ≤ depth) }
-    ensures { result ≡ top (drop closed (stack_of stack.now depth)) }
+// The innermost gap, where so many have closed; 14 where none is left.
+pub fn innermost(gaps: &[u8], closed: usize) -> u8
+    requires { closed ≤ length gaps.now }
+    ensures { result ≡ top (drop closed (stack_of gaps.now (length gaps.now))) }
 {
-    if closed < depth {
-        return stack[depth - closed - 1];
+    if closed < gaps.len() {
+        return gaps[gaps.len() - closed - 1];
     }
     14
 }
 
 // The innermost gap, where those have closed that bind at n or tighter.
-fn innermost_after(stack: &[u8], depth: usize, n: usize) -> u8
-    requires { depth ≤ length stack.now }
-    ensures { result ≡ top (drop (pops n (stack_of stack.now depth)) (stack_of stack.now depth)) }
+fn innermost_after(gaps: &[u8], n: usize) -> u8
+    ensures { result ≡ top (drop (pops n (stack_of gaps.now (length gaps.now))) (stack_of gaps.now (length gaps.now))) }
 {
-    let c = close(stack, depth, n, true);
-    innermost(stack, depth, c.pops)
+    innermost(gaps, close(gaps, n, true).pops)
 }
 
 // Which words may come where an expression is wanted.
+#[tactic(auto, unfolding(crate::specs::Machine::want_may))]
 fn want_may(t: u8) -> [bool; 36]
     ensures { result ≡ want_may t }
 {
@@ -120,26 +142,10 @@ fn want_may(t: u8) -> [bool; 36]
 fn slash_move(t: u8) -> Move
     ensures { result ≡ slash_move t }
 {
-    let after_slash = t == 6;
-    if after_slash {
-        return Move {
-            focus: 0,
-            pops: 1,
-            push: 7,
-        };
-    }
-    let after_lead = t == 8;
-    if after_lead {
-        return Move {
-            focus: 0,
-            pops: 0,
-            push: 9,
-        };
-    }
-    Move {
-        focus: 0,
-        pops: 0,
-        push: 8,
+    match t {
+        6 => Move::open(1, 7),
+        8 => Move::open(0, 9),
+        _ => Move::open(0, 8),
     }
 }
 
@@ -147,58 +153,22 @@ fn slash_move(t: u8) -> Move
 fn bracket_code(t: u8) -> u8
     ensures { result ≡ cond (takes t) 11 10 }
 {
-    let test = takes_test(t);
-    if test {
-        return 11;
-    }
-    10
+    if takes_test(t) { 11 } else { 10 }
 }
 
 // The step that word k makes where an expression is wanted.
+#[tactic(auto, unfolding(crate::specs::Machine::want_move))]
 fn want_move(t: u8, k: usize) -> Move
     ensures { result ≡ want_move t k }
 {
-    let axis = k < 13;
-    if axis {
-        return Move {
-            focus: 1,
-            pops: 0,
-            push: 14,
-        };
+    match k {
+        0..=12 => Move::to(1),
+        13..=15 => Move::to(3),
+        16 => Move::to(5),
+        17 => Move::open(0, bracket_code(t)),
+        18 => Move::open(0, 12),
+        _ => slash_move(t),
     }
-    let variable = k < 16;
-    if variable {
-        return Move {
-            focus: 3,
-            pops: 0,
-            push: 14,
-        };
-    }
-    let dot = k == 16;
-    if dot {
-        return Move {
-            focus: 5,
-            pops: 0,
-            push: 14,
-        };
-    }
-    let bracket = k == 17;
-    if bracket {
-        return Move {
-            focus: 0,
-            pops: 0,
-            push: bracket_code(t),
-        };
-    }
-    let negation = k == 18;
-    if negation {
-        return Move {
-            focus: 0,
-            pops: 0,
-            push: 12,
-        };
-    }
-    slash_move(t)
 }
 
 // Which words may come behind an expression.
@@ -226,225 +196,151 @@ fn have_may(f: u8, outer: u8, inner: u8, both: u8, pair: u8) -> [bool; 36]
 fn bracket_focus(inner: u8, path: bool) -> u8
     ensures { result ≡ bracket_focus inner path }
 {
-    let negation = inner == 12;
-    if negation {
-        return 2;
-    }
-    if path {
-        return 4;
-    }
-    2
+    if inner != 12 && path { 4 } else { 2 }
 }
 
 // The step that ']' or ')' makes.
-fn close_move(f: u8, stack: &[u8], depth: usize, k: usize) -> Move
-    requires { depth ≤ length stack.now }
-    ensures { result ≡ close_move f (stack_of stack.now depth) k }
+fn close_move(f: u8, gaps: &[u8], k: usize) -> Move
+    ensures { result ≡ close_move f (stack_of gaps.now (length gaps.now)) k }
 {
-    let c = close(stack, depth, 0, 2 < f);
-    let pops = c.pops;
-    let filter = k == 25;
-    if filter {
-        return Move {
-            focus: 3,
-            pops: pops + 1,
-            push: 14,
-        };
-    }
-    let inner = innermost(stack, depth, pops);
+    let c = close(gaps, 0, 2 < f);
+    let focus = if k == 25 {
+        3
+    } else {
+        bracket_focus(innermost(gaps, c.pops), c.path)
+    };
     Move {
-        focus: bracket_focus(inner, c.path),
-        pops: pops + 1,
+        focus: focus,
+        pops: c.pops + 1,
         push: 14,
     }
 }
 
 // The step that an operator makes.
-fn join_move(stack: &[u8], depth: usize, k: usize) -> Move
-    requires { (depth ≤ length stack.now) × (27 ≤ k) × (k < 34) }
-    ensures { result ≡ join_move (stack_of stack.now depth) k }
+fn join_move(gaps: &[u8], k: usize) -> Move
+    requires { (27 ≤ k) × (k < 34) }
+    ensures { result ≡ join_move (stack_of gaps.now (length gaps.now)) k }
 {
     let o = k - 27;
-    let c = close(stack, depth, OPERATORS[o], true);
-    Move {
-        focus: 0,
-        pops: c.pops,
-        push: o as u8,
-    }
+    Move::open(close(gaps, OPERATORS[o], true).pops, o as u8)
 }
 
 // The step that word k makes behind an expression.
-fn have_move(f: u8, stack: &[u8], depth: usize, k: usize) -> Move
-    requires { (depth ≤ length stack.now) × (k < 36) }
-    ensures { result ≡ have_move f (stack_of stack.now depth) k }
+#[tactic(auto, unfolding(crate::specs::Machine::have_move))]
+fn have_move(f: u8, gaps: &[u8], k: usize) -> Move
+    requires { k < 36 }
+    ensures { result ≡ have_move f (stack_of gaps.now (length gaps.now)) k }
 {
-    let is = k < 23;
-    if is {
-        return Move {
-            focus: 2,
-            pops: 0,
-            push: 14,
-        };
+    match k {
+        0..=22 => Move::to(2),
+        24 => Move::open(0, 13),
+        25 | 26 => close_move(f, gaps, k),
+        27..=33 => join_move(gaps, k),
+        _ => Move::to(3),
     }
-    let completed = (k == 23) | (33 < k);
-    if completed {
-        return Move {
-            focus: 3,
-            pops: 0,
-            push: 14,
-        };
-    }
-    let test = k == 24;
-    if test {
-        return Move {
-            focus: 0,
-            pops: 0,
-            push: 13,
-        };
-    }
-    let closing = k < 27;
-    if closing {
-        return close_move(f, stack, depth, k);
-    }
-    join_move(stack, depth, k)
 }
 
 // The focus behind one letter more of a name: 7 to 10 behind "n", "no", "nod" and "node", and 6 behind any other.
+#[tactic(auto, unfolding(crate::specs::Machine::letter_focus))]
 fn letter_focus(f: u8, b: u8) -> u8
     ensures { result ≡ letter_focus f b }
 {
-    let n = (f == 1) & (b == 110);
-    if n {
-        return 7;
+    match (f, b) {
+        (1, b'n') => 7,
+        (7, b'o') => 8,
+        (8, b'd') => 9,
+        (9, b'e') => 10,
+        _ => 6,
     }
-    let o = (f == 7) & (b == 111);
-    if o {
-        return 8;
-    }
-    let d = (f == 8) & (b == 100);
-    if d {
-        return 9;
-    }
-    let e = (f == 9) & (b == 101);
-    if e {
-        return 10;
-    }
-    6
 }
 
-// A turn at a byte of a name.
-fn letter_turn(f: u8, b: u8) -> Turn
-    ensures { result ≡ letter_turn f b }
+// The turn at a byte of a name.
+fn letter(f: u8, b: u8) -> Word
+    ensures { Ok result ≡ letter_turn f b }
 {
-    Turn::Go(
-        36,
-        Move {
-            focus: letter_focus(f, b),
-            pops: 0,
-            push: 14,
-        },
-        1,
-    )
+    Word {
+        number: 36,
+        step: Move::to(letter_focus(f, b)),
+        len: 1,
+    }
 }
 
-// A turn where an axis was read.
-fn axis_turn(b: u8) -> Turn
+// A turn where an axis was read: a byte of a name, or the star.
+fn axis_turn(b: u8) -> Result<Word, usize>
     ensures { result ≡ axis_turn b }
 {
-    let name = grammar::is_name_byte(b);
-    if name {
-        return letter_turn(1, b);
+    if grammar::is_name_byte(b) {
+        return Ok(letter(1, b));
     }
-    let star = b == 42;
-    if star {
-        return Turn::Go(
-            37,
-            Move {
-                focus: 3,
-                pops: 0,
-                push: 14,
-            },
-            1,
-        );
+    if b == b'*' {
+        return Ok(Word {
+            number: 37,
+            step: Move::to(3),
+            len: 1,
+        });
     }
-    Turn::Halt(0)
+    Err(0)
 }
 
 // A turn where an expression is wanted.
-fn want_turn(stack: &[u8], depth: usize, text: &[u8], at: usize) -> Turn
-    requires { (depth ≤ length stack.now) × (at < length text.now) }
-    ensures { result ≡ want_turn (stack_of stack.now depth) (drop at text.now) }
+fn want_turn(gaps: &[u8], text: &[u8], at: usize) -> Result<Word, usize>
+    requires { at < length text.now }
+    ensures { result ≡ want_turn (stack_of gaps.now (length gaps.now)) (drop at text.now) }
 {
-    let t = innermost(stack, depth, 0);
-    let may = want_may(t);
-    match words::word_at(text, at, may, 0, 20) {
-        words::Scan::Word(k) => Turn::Go(k, want_move(t, k), words::word_len(k)),
-        words::Scan::Stop(p) => Turn::Halt(p),
-    }
+    let t = innermost(gaps, 0);
+    let k = words::word_at(text, at, want_may(t), 0, 20)?;
+    Ok(Word {
+        number: k,
+        step: want_move(t, k),
+        len: words::word_len(k),
+    })
 }
 
 // The words that may come behind an expression, by the gaps.
-fn may_follow(f: u8, stack: &[u8], depth: usize) -> [bool; 36]
-    requires { depth ≤ length stack.now }
-    ensures { result ≡ have_may f (stack_of stack.now depth) }
+fn may_follow(f: u8, gaps: &[u8]) -> [bool; 36]
+    ensures { result ≡ have_may f (stack_of gaps.now (length gaps.now)) }
 {
-    let outer = innermost(stack, depth, 0);
-    let inner = innermost_after(stack, depth, 0);
-    let both = innermost_after(stack, depth, 1);
-    let pair = innermost_after(stack, depth, 3);
+    let outer = innermost(gaps, 0);
+    let inner = innermost_after(gaps, 0);
+    let both = innermost_after(gaps, 1);
+    let pair = innermost_after(gaps, 3);
     have_may(f, outer, inner, both, pair)
 }
 
 // A turn behind an expression, where its name goes on no longer.
-fn have_turn(f: u8, stack: &[u8], depth: usize, text: &[u8], at: usize) -> Turn
-    requires { (depth ≤ length stack.now) × (at < length text.now) }
-    ensures { result ≡ have_turn f (stack_of stack.now depth) (drop at text.now) }
+fn have_turn(f: u8, gaps: &[u8], text: &[u8], at: usize) -> Result<Word, usize>
+    requires { at < length text.now }
+    ensures { result ≡ have_turn f (stack_of gaps.now (length gaps.now)) (drop at text.now) }
 {
-    let may = may_follow(f, stack, depth);
-    match words::word_at(text, at, may, 20, 36) {
-        words::Scan::Word(k) => Turn::Go(k, have_move(f, stack, depth, k), words::word_len(k)),
-        words::Scan::Stop(p) => Turn::Halt(p),
-    }
+    let k = words::word_at(text, at, may_follow(f, gaps), 20, 36)?;
+    Ok(Word {
+        number: k,
+        step: have_move(f, gaps, k),
+        len: words::word_len(k),
+    })
 }
 
-// One turn of the reading: the word that stands at `at`, or where no text goes on.
-pub fn step(f: u8, stack: &[u8], depth: usize, text: &[u8], at: usize) -> Turn
-    requires { (depth ≤ length stack.now) × (at < length text.now) }
-    ensures { result ≡ turn_of f (stack_of stack.now depth) (drop at text.now) }
+// One turn of the reading: the word that stands at `at`, or how many bytes are read before no text goes on.
+pub fn step(f: u8, gaps: &[u8], text: &[u8], at: usize) -> Result<Word, usize>
+    requires { at < length text.now }
+    ensures { result ≡ turn_of f (stack_of gaps.now (length gaps.now)) (drop at text.now) }
 {
-    let wanted = f == 0;
-    if wanted {
-        return want_turn(stack, depth, text, at);
-    }
     let b = text[at];
-    let after_axis = f == 1;
-    if after_axis {
-        return axis_turn(b);
+    match f {
+        0 => want_turn(gaps, text, at),
+        1 => axis_turn(b),
+        _ if (5 < f) & grammar::is_name_byte(b) => Ok(letter(f, b)),
+        _ => have_turn(f, gaps, text, at),
     }
-    let longer = (5 < f) & grammar::is_name_byte(b);
-    if longer {
-        return letter_turn(f, b);
-    }
-    have_turn(f, stack, depth, text, at)
 }
 
 // The text may end here: an expression stands there, and all gaps close.
-pub fn may_end(f: u8, stack: &[u8], depth: usize) -> bool
-    requires { depth ≤ length stack.now }
-    ensures { result ≡ may_end f (stack_of stack.now depth) }
+#[tactic(auto, using(crate::proofs::Steps::end_test))]
+pub fn may_end(f: u8, gaps: &[u8]) -> bool
+    ensures { result ≡ may_end f (stack_of gaps.now (length gaps.now)) }
 {
-    let c = close(stack, depth, 0, true);
-    (1 < f) & (c.pops == depth)
-}
-
-// How many gaps are left.
-fn left(depth: usize, pops: usize) -> usize
-    ensures { result ≡ depth - pops }
-{
-    if pops < depth {
-        return depth - pops;
-    }
-    0
+    let c = close(gaps, 0, true);
+    (1 < f) & (c.pops == gaps.len())
 }
 
 // Makes a step on the stack, and tells the new depth. The slot is written even where no gap opens: it is not read then.
@@ -452,11 +348,7 @@ pub fn make(m: Move, stack: &mut [u8], depth: usize) -> usize
     requires { depth < length stack.old }
     ensures { (result ≡ depth - m.pops + cond (ltb m.push 14) 1 0) × (stack.new ≡ set stack.old (depth - m.pops) m.push) }
 {
-    let keep = left(depth, m.pops);
+    let keep = depth.saturating_sub(m.pops);
     stack[keep] = m.push;
-    let opens = m.push < 14;
-    if opens {
-        return keep + 1;
-    }
-    keep
+    if m.push < 14 { keep + 1 } else { keep }
 }

@@ -1,4 +1,5 @@
 -- The names of a text while it is read: their tags, and the place of the first that has none.
+use Rattle.std.specs.Prelude.{Option, Some, None}
 use Prim.Native.Nat.{ℕ, zero, suc, ◌-◌, ◌≤◌}
 use native.Mathlib.Omega.{arith}
 use mathlib.Core.Path.{◌≡◌, refl, sym, ap, ◌∙◌, subst}
@@ -21,7 +22,7 @@ use Rattle.names.specs.Tags.{tag_of, tag_number, is_known}
 use Rattle.reader.specs.declared.Progress.{Progress}
 use Rattle.reader.specs.declared.Sought.{Sought}
 use Rattle.reader.specs.Read.{tag_in, any_unknown, unknown_place}
-use Rattle.reader.specs.Turns.{sought_name, sought_at}
+use Rattle.reader.specs.Turns.{first_place, own_place, first_unknown, any_in, place_in, sought_name, sought_at}
 
 -- the focus tells whether a name is being read, and whether an axis was
 pub in_name_lem : (s : State) → ltb 5 (focus_of s) ≡ in_name s
@@ -51,58 +52,39 @@ between_places (x ∷ l) (suc a) zero = let e : 0 - suc a ≡ 0 = omega arith in
 between_places (x ∷ l) (suc a) (suc b) = between_places l a b ∙ (let e : b - a ≡ suc b - suc a = omega arith in rw e)
 
 module _ (house site : List ℕ) where
-  no_place : (ns : List TypedName) → any_unknown house site ns ≡ false → unknown_place house site ns ≡ 0
-  unfolding any_unknown unknown_place
-  no_place [] h = refl
-  no_place (n ∷ ns) h = go (is_known (tag_of house site n.name)) h (no_place ns)
+  -- one name more: the first without a tag
+  first_last : (ns : List TypedName) (n : TypedName)
+      → first_unknown house site (ns ++ (n ∷ [])) ≡ first_place (first_unknown house site ns) (own_place (tag_of house site n.name) n.place)
+  unfolding first_unknown
+  first_last [] n = refl
+  first_last (m ∷ ns) n = go (is_known (tag_of house site m.name)) (first_last ns n)
     where
-      go : (b : Bool) → (not b || any_unknown house site ns) ≡ false → (any_unknown house site ns ≡ false → unknown_place house site ns ≡ 0)
-          → cond b (unknown_place house site ns) n.place ≡ 0
-      go true q ih = ih q
-      go false q ih = no_yes q refl
-
-  any_last : (ns : List TypedName) (n : TypedName) → any_unknown house site (ns ++ (n ∷ [])) ≡ (any_unknown house site ns || not (is_known (tag_of house site n.name)))
-  unfolding any_unknown
-  any_last [] n = or_none (not (is_known (tag_of house site n.name)))
-    where
-      or_none : (b : Bool) → (b || false) ≡ b
-      or_none true = refl
-      or_none false = refl
-  any_last (m ∷ ns) n = ap (λ (b : Bool). not (is_known (tag_of house site m.name)) || b) (any_last ns n) ∙ or_both (not (is_known (tag_of house site m.name))) (any_unknown house site ns) (not (is_known (tag_of house site n.name)))
-    where
-      or_both : (a b c : Bool) → (a || (b || c)) ≡ ((a || b) || c)
-      or_both true b c = refl
-      or_both false b c = refl
-
-  place_last : (ns : List TypedName) (n : TypedName)
-      → unknown_place house site (ns ++ (n ∷ [])) ≡ cond (any_unknown house site ns) (unknown_place house site ns) (cond (is_known (tag_of house site n.name)) 0 n.place)
-  unfolding any_unknown unknown_place
-  place_last [] n = refl
-  place_last (m ∷ ns) n = go (is_known (tag_of house site m.name)) (place_last ns n)
-    where
-      go : (b : Bool)
-          → unknown_place house site (ns ++ (n ∷ [])) ≡ cond (any_unknown house site ns) (unknown_place house site ns) (cond (is_known (tag_of house site n.name)) 0 n.place)
-          → cond b (unknown_place house site (ns ++ (n ∷ []))) m.place
-          ≡ cond (not b || any_unknown house site ns) (cond b (unknown_place house site ns) m.place) (cond (is_known (tag_of house site n.name)) 0 n.place)
+      go : (b : Bool) → first_unknown house site (ns ++ (n ∷ [])) ≡ first_place (first_unknown house site ns) (own_place (tag_of house site n.name) n.place)
+          → cond b (first_unknown house site (ns ++ (n ∷ []))) (Some m.place)
+          ≡ first_place (cond b (first_unknown house site ns) (Some m.place)) (own_place (tag_of house site n.name) n.place)
       go true ih = ih
       go false ih = refl
 
-  -- one name more: what is then known of all of them
-  pub next_place : (ns : List TypedName) (n : TypedName) (u : Bool) (at : ℕ) → u ≡ any_unknown house site ns → at ≡ unknown_place house site ns
-      → cond (u || is_known (tag_of house site n.name)) at n.place ≡ unknown_place house site (ns ++ (n ∷ []))
-  next_place ns n u at p q = go u (is_known (tag_of house site n.name)) p ∙ sym (place_last ns n)
+  -- whether there is one, and its place
+  pub any_first : (ns : List TypedName) → any_in (first_unknown house site ns) ≡ any_unknown house site ns
+  unfolding first_unknown any_unknown
+  any_first [] = refl
+  any_first (n ∷ ns) = go (is_known (tag_of house site n.name)) (any_first ns)
     where
-      go : (u b : Bool) → u ≡ any_unknown house site ns → cond (u || b) at n.place ≡ cond (any_unknown house site ns) (unknown_place house site ns) (cond b 0 n.place)
-      go true b p = q ∙ (let e : cond (any_unknown house site ns) (unknown_place house site ns) (cond b 0 n.place) ≡ unknown_place house site ns = ap (λ (v : Bool). cond v (unknown_place house site ns) (cond b 0 n.place)) (sym p) in sym e)
-      go false b p = rest b ∙ ap (λ (v : Bool). cond v (unknown_place house site ns) (cond b 0 n.place)) p
-        where
-          rest : (b : Bool) → cond b at n.place ≡ cond b 0 n.place
-          rest true = q ∙ no_place ns (sym p)
-          rest false = refl
+      go : (b : Bool) → any_in (first_unknown house site ns) ≡ any_unknown house site ns
+          → any_in (cond b (first_unknown house site ns) (Some n.place)) ≡ (not b || any_unknown house site ns)
+      go true ih = ih
+      go false ih = refl
 
-  pub next_unknown : (ns : List TypedName) (n : TypedName) (u : Bool) → u ≡ any_unknown house site ns
-      → (u || not (is_known (tag_of house site n.name))) ≡ any_unknown house site (ns ++ (n ∷ []))
-  next_unknown ns n u p = ap (λ (b : Bool). b || not (is_known (tag_of house site n.name))) p ∙ sym (any_last ns n)
+  pub place_first : (ns : List TypedName) → place_in (first_unknown house site ns) ≡ unknown_place house site ns
+  unfolding first_unknown unknown_place
+  place_first [] = refl
+  place_first (n ∷ ns) = go (is_known (tag_of house site n.name)) (place_first ns)
+    where
+      go : (b : Bool) → place_in (first_unknown house site ns) ≡ unknown_place house site ns
+          → place_in (cond b (first_unknown house site ns) (Some n.place)) ≡ cond b (unknown_place house site ns) n.place
+      go true ih = ih
+      go false ih = refl
 
   -- where no name is being read, any tag will do
   untagged : (s : State) (g : ℕ) → in_name s ≡ false → Tagged (tag_in house site) s g
@@ -162,14 +144,13 @@ module _ (house site : List ℕ) where
   -- what is sought where a name ends, if one does
   pub record Ends (text : List ℕ) (s : State) (p : Progress) : Type 0 where
     pub tag : Tagged (tag_in house site) s (sought_at text house site p true).tag
-    pub unknown : (sought_at text house site p true).unknown ≡ any_unknown house site (finished s ++ pending_name s)
-    pub place : (sought_at text house site p true).place ≡ unknown_place house site (finished s ++ pending_name s)
+    pub unknown : (sought_at text house site p true).unknown ≡ first_unknown house site (finished s ++ pending_name s)
 
   abbrev one_name : ℕ → List ℕ → List TypedName
   one_name p l = record { place = p; name = l } ∷ []
 
   nothing_sought : (text : List ℕ) (p : Progress) (ended : Bool) → (ltb 5 p.focus && ended) ≡ false
-      → sought_at text house site p ended ≡ record { tag = 0; unknown = p.unknown; place = p.place }
+      → sought_at text house site p ended ≡ record { tag = 0; unknown = p.unknown }
   unfolding sought_at
   nothing_sought text p ended h = rw h
 
@@ -179,8 +160,8 @@ module _ (house site : List ℕ) where
   name_sought text p h = rw h
 
   pub ends_here : (text : List ℕ) (s : State) (p : Progress) → After s (take p.at text) → focus_of s ≡ p.focus → Begun s p.start
-      → p.unknown ≡ any_unknown house site (finished s) → p.place ≡ unknown_place house site (finished s) → Ends text s p
-  ends_here text s p af f b u q = go (in_name s) refl
+      → p.unknown ≡ first_unknown house site (finished s) → Ends text s p
+  ends_here text s p af f b u = go (in_name s) refl
     where
       named_here : ltb 5 p.focus ≡ in_name s
       named_here = ap (λ (n : ℕ). ltb 5 n) (sym f) ∙ in_name_lem s
@@ -192,8 +173,7 @@ module _ (house site : List ℕ) where
           let n : finished s ≡ finished s ++ pending_name s = sym (ap (λ (l : List TypedName). finished s ++ l) (pending_none s i) ∙ append-nil (finished s)) in
           record {
             tag = subst (λ (x : Sought). Tagged (tag_in house site) s x.tag) (sym e) (untagged s 0 i);
-            unknown = ap (λ (x : Sought). x.unknown) e ∙ u ∙ ap (any_unknown house site) n;
-            place = ap (λ (x : Sought). x.place) e ∙ q ∙ ap (unknown_place house site) n;
+            unknown = ap (λ (x : Sought). x.unknown) e ∙ u ∙ ap (first_unknown house site) n;
           }
       go true i =
           let e = name_sought text p (named_here ∙ i) in
@@ -204,12 +184,15 @@ module _ (house site : List ℕ) where
           let m : finished s ++ (typed ∷ []) ≡ finished s ++ pending_name s = ap (λ (l : List TypedName). finished s ++ l) (sym n) in
           record {
             tag = subst (λ (x : Sought). Tagged (tag_in house site) s x.tag) (sym e) (tagged_name s p.start name i n);
-            unknown = ap (λ (x : Sought). x.unknown) e ∙ next_unknown (finished s) typed p.unknown u ∙ ap (any_unknown house site) m;
-            place = ap (λ (x : Sought). x.place) e ∙ next_place (finished s) typed p.unknown p.place u q ∙ ap (unknown_place house site) m;
+            unknown =
+                ap (λ (x : Sought). x.unknown) e
+                ∙ ap (λ (o : Option ℕ). first_place o (own_place (tag_of house site name) p.start)) u
+                ∙ sym (first_last (finished s) typed)
+                ∙ ap (first_unknown house site) m;
           }
 
   -- no name ends
-  pub goes_on : (text : List ℕ) (p : Progress) → sought_at text house site p false ≡ record { tag = 0; unknown = p.unknown; place = p.place }
+  pub goes_on : (text : List ℕ) (p : Progress) → sought_at text house site p false ≡ record { tag = 0; unknown = p.unknown }
   goes_on text p = nothing_sought text p false (and_false (ltb 5 p.focus))
     where
       and_false : (b : Bool) → (b && false) ≡ false
@@ -217,11 +200,14 @@ module _ (house site : List ℕ) where
       and_false false = refl
 
   -- the place of a name without a tag is one that has been passed
-  pub place_most : (text : List ℕ) (p : Progress) (ended : Bool) → p.place ≤ p.at → p.start ≤ p.at → (sought_at text house site p ended).place ≤ p.at
+  pub place_most : (text : List ℕ) (p : Progress) (ended : Bool) → place_in p.unknown ≤ p.at → p.start ≤ p.at → place_in (sought_at text house site p ended).unknown ≤ p.at
   unfolding sought_at
-  place_most text p ended h l = go (ltb 5 p.focus && ended) (p.unknown || is_known (tag_of house site (take (p.at - p.start) (drop p.start text))))
+  place_most text p ended h l =
+      go (ltb 5 p.focus && ended) (is_known (tag_of house site (take (p.at - p.start) (drop p.start text)))) p.unknown h
     where
-      go : (b c : Bool) → (cond {A = Sought} b (record { tag = tag_number (tag_of house site (take (p.at - p.start) (drop p.start text))); unknown = p.unknown || not (is_known (tag_of house site (take (p.at - p.start) (drop p.start text)))); place = cond c p.place p.start }) (record { tag = 0; unknown = p.unknown; place = p.place })).place ≤ p.at
-      go true true = h
-      go true false = l
-      go false c = h
+      go : (b c : Bool) (o : Option ℕ) → place_in o ≤ p.at
+          → place_in (cond {A = Sought} b (record { tag = tag_number (tag_of house site (take (p.at - p.start) (drop p.start text))); unknown = first_place o (cond c None (Some p.start)) }) (record { tag = 0; unknown = o })).unknown ≤ p.at
+      go true c (Some i) h = h
+      go true true None h = h
+      go true false None h = l
+      go false c o h = h

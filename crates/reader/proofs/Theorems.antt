@@ -17,8 +17,7 @@ use Rattle.model.proofs.Refusals.{numbered, passed, Passes-front}
 use Rattle.model.proofs.Unchanged.{starred, starred_size, starred_columns, table_as_before}
 use Rattle.entries.specs.Size.{size_checks}
 use Rattle.entries.proofs.Size.{size_passes}
-use Rattle.names.specs.declared.Tag.{Tag}
-use Rattle.names.specs.declared.Tag.TheVariants.{Known, Unknown}
+use Rattle.std.specs.Prelude.{Option, Some, None}
 use Rattle.names.specs.Names.{name_table_checks}
 use Rattle.names.specs.Tags.{tag_of, tag_number}
 use Rattle.names.proofs.Tags.{tag_names}
@@ -60,9 +59,9 @@ module _ (text house site : List ℕ) (room : ℕ) where
 tag_most : (house site name : List ℕ) → tag_in house site name ≡ 65534 → ⊥
 tag_most house site name h = go (tag_of house site name) refl h
   where
-    go : (t : Tag) → tag_of house site name ≡ t → tag_number t ≡ 65534 → ⊥
-    go (Known t) e q = let l = (tag_names house site name t e).0 in absurd (omega arith)
-    go Unknown e q = absurd (omega arith)
+    go : (t : Option ℕ) → tag_of house site name ≡ t → tag_number t ≡ 65534 → ⊥
+    go (Some t) e q = let l = (tag_names house site name t e).0 in absurd (omega arith)
+    go None e q = absurd (omega arith)
 
 module _ (text house site : List ℕ) (o : is_old (typed text) ≡ true) where
   as_starred : query_before text house site ≡ starred (query_of text house site)

@@ -1,76 +1,91 @@
--- Laws for a turn, and for the end of the text.
-use Prim.Native.Nat.{ℕ, ◌+◌, ◌-◌, ◌≤◌, ◌<◌}
+-- Laws for a turn.
+use Rattle.std.specs.Prelude.{Result, Ok, Err}
+use Prim.Native.Nat.{ℕ, suc, zero, ◌+◌, ◌-◌, ◌≤◌, ◌<◌}
+use native.Mathlib.Omega.{arith}
 use mathlib.Core.Path.{◌≡◌, refl, sym, ap, ◌∙◌, subst}
-use mathlib.Core.Bool.{true}
-use mathlib.Core.List.{List}
-use lib.ListN.{set}
+use mathlib.Core.Bool.{Bool, true}
+use mathlib.Core.List.{List, ◌∷◌}
+use lib.ListN.{length, set, take, get_or}
+use lib.Seq.{get_or-take, length-take-le}
 use lib.Dec.{ltb}
-use Rattle.machine.specs.declared.Move.{Move}
-use Rattle.machine.specs.declared.Turn.{Turn}
-use Rattle.machine.specs.declared.Turn.TheVariants.{Go, Halt}
-use Rattle.machine.specs.Machine.{stack_of, may_end}
-use Rattle.entries.specs.declared.Draft.{Draft}
-use Rattle.entries.specs.Postfix.{Wrote, made}
+use Rattle.model.specs.declared.refusal.Refusal.{Refusal}
+use Rattle.model.specs.declared.refusal.Refusal.TheVariants.{Ungrammatical}
+use Rattle.model.specs.Refusals.{told, verdict}
+use Rattle.machine.specs.declared.Word.{Word}
+use Rattle.machine.specs.Machine.{Turn, stack_of, turn_of, may_end}
+use Rattle.entries.specs.Postfix.{Made, Wrote}
 use Rattle.emission.specs.Items.{word_items, end_items}
 use Rattle.reader.specs.declared.Progress.{Progress}
 use Rattle.reader.specs.declared.Sought.{Sought}
-use Rattle.reader.specs.declared.Step.{Step}
-use Rattle.reader.specs.declared.Step.TheVariants.{On, Stuck}
-use Rattle.reader.specs.declared.Reading.{Reading}
-use Rattle.reader.specs.Turns.{sought_at, moved, turn_at, Within, Took, Advanced, Finished}
+use Rattle.reader.specs.Turns.{sought_at, moved, turn_at, Within, Took, Advanced, any_in, place_in, place_checks, Finished}
 
-module _ (text house site : List ℕ) (p : Progress) (stack table operands : List ℕ) where
-  draft_moved : (k : ℕ) (m : Move) (n : ℕ) (s : Sought) (d : Draft) → (moved p k m n s d).draft ≡ d
-  unfolding moved
-  draft_moved k m n s d = refl
+-- the gaps as a slice of the stack
 
-  pub took : (k : ℕ) (m : Move) (n : ℕ) (q : Progress) (stack' table' operands' : List ℕ) (s : Sought) (d : Draft)
-      → q ≡ moved p k m n s d
-      → s ≡ sought_at text house site p (ltb k 34)
-      → stack' ≡ set stack (p.depth - m.pops) m.push
-      → Wrote (word_items p.focus (stack_of stack p.depth) k p.axis s.tag) (made p.draft table operands) (made d table' operands')
-      → Took text house site p stack table operands k m n q stack' table' operands'
-  took k m n q stack' table' operands' s d e h g w =
-      let f : d ≡ q.draft = sym (ap (λ (x : Progress). x.draft) e ∙ draft_moved k m n s d) in
+same_gaps : (a c : List ℕ) (i : ℕ) → ((j : ℕ) → j < i → get_or a j 0 ≡ get_or c j 0) → stack_of a i ≡ stack_of c i
+unfolding stack_of
+same_gaps a c zero h = refl
+same_gaps a c (suc i) h =
+    ap (λ (g : ℕ). g ∷ stack_of a i) (h i (omega arith)) ∙ ap (λ (l : List ℕ). get_or c i 0 ∷ l) (same_gaps a c i (λ j l. h j (omega arith)))
+
+pub sliced : (a : List ℕ) (d : ℕ) → d ≤ length a → stack_of (take d a) (length (take d a)) ≡ stack_of a d
+sliced a d h =
+    ap (stack_of (take d a)) (length-take-le d a h) ∙ same_gaps (take d a) a d (λ j l. get_or-take d a j 0 l)
+
+module _ (text house site : List ℕ) (p : Progress) (stack : List ℕ) (b : Made) where
+  pub took : (w : Word) (q : Progress) (stack' g : List ℕ) (b' : Made) (s : Sought) → p.depth ≤ length stack → g ≡ take p.depth stack
+      → q ≡ moved p w.number w.step w.len s
+      → s ≡ sought_at text house site p (ltb w.number 34)
+      → stack' ≡ set stack (p.depth - w.step.pops) w.step.push
+      → Wrote (word_items p.focus (stack_of g (length g)) w.number p.axis s.tag) b b'
+      → Took text house site p stack b w.number w.step w.len q stack' b'
+  took w q stack' g b' s l i e h u v =
+      let k = w.number in
       record {
-        place = e ∙ ap (λ (x : Sought). moved p k m n x d) h ∙ ap (moved p k m n (sought_at text house site p (ltb k 34))) f;
-        gaps = g;
+        place = e ∙ ap (λ (x : Sought). moved p k w.step w.len x) h;
+        gaps = u;
         wrote =
-            subst (λ (x : Draft). Wrote (word_items p.focus (stack_of stack p.depth) k p.axis (sought_at text house site p (ltb k 34)).tag) (made p.draft table operands) (made x table' operands')) f
-            (subst (λ (x : Sought). Wrote (word_items p.focus (stack_of stack p.depth) k p.axis x.tag) (made p.draft table operands) (made d table' operands')) h w);
+            subst (λ (ks : List ℕ). Wrote (word_items p.focus ks k p.axis (sought_at text house site p (ltb k 34)).tag) b b')
+            (ap (λ (g : List ℕ). stack_of g (length g)) i ∙ sliced stack p.depth l)
+            (subst (λ (x : Sought). Wrote (word_items p.focus (stack_of g (length g)) k p.axis x.tag) b b') h v);
       }
 
-  pub finished_is : (r : Reading) (table' operands' : List ℕ) (s : Sought)
+  pub finished_is : (r : Result Unit Refusal) (g : List ℕ) (b' : Made) (s : Sought) (y : Bool) → p.depth ≤ length stack → g ≡ take p.depth stack
       → s ≡ sought_at text house site p true
-      → r.readable ≡ may_end p.focus (stack_of stack p.depth) → r.stop ≡ p.at → r.unknown ≡ s.unknown → r.place ≡ s.place
-      → Wrote (end_items p.focus (stack_of stack p.depth) p.axis s.tag) (made p.draft table operands) (made r.draft table' operands')
-      → Finished text house site p stack table operands r table' operands'
-  finished_is r table' operands' s h a b u l w =
+      → y ≡ may_end p.focus (stack_of g (length g))
+      → told r ≡ verdict (place_checks p.at y (place_in s.unknown) (any_in s.unknown))
+      → Wrote (end_items p.focus (stack_of g (length g)) p.axis s.tag) b b'
+      → Finished text house site p stack b r b'
+  finished_is r g b' s y l i h a j v =
+      let gaps = ap (λ (g : List ℕ). stack_of g (length g)) i ∙ sliced stack p.depth l in
       record {
-        reads = a;
-        stops = b;
-        unknowns = u ∙ ap (λ (x : Sought). x.unknown) h;
-        places = l ∙ ap (λ (x : Sought). x.place) h;
-        wrote = subst (λ (x : Sought). Wrote (end_items p.focus (stack_of stack p.depth) p.axis x.tag) (made p.draft table operands) (made r.draft table' operands')) h w;
+        judged =
+            j
+            ∙ ap (λ (x : Sought). verdict (place_checks p.at y (place_in x.unknown) (any_in x.unknown))) h
+            ∙ ap (λ (m : Bool). verdict (place_checks p.at m (place_in (sought_at text house site p true).unknown) (any_in (sought_at text house site p true).unknown)))
+            (a ∙ ap (may_end p.focus) gaps);
+        wrote =
+            subst (λ (ks : List ℕ). Wrote (end_items p.focus ks p.axis (sought_at text house site p true).tag) b b') gaps
+            (subst (λ (x : Sought). Wrote (end_items p.focus (stack_of g (length g)) p.axis x.tag) b b') h v);
       }
 
   -- a turn by its cases
-  pub turn_stops : (t : Turn) (r : Step) (stack' table' operands' : List ℕ) (n : ℕ) → t ≡ turn_at text p stack → t ≡ Halt n → r ≡ Stuck (p.at + n)
-      → Advanced text house site p stack table operands (turn_at text p stack) r stack' table' operands'
-  turn_stops t r stack' table' operands' n e h s =
-      subst (λ (x : Turn). Advanced text house site p stack table operands x r stack' table' operands') (sym h ∙ e) s
+  module _ (t : Turn) (g : List ℕ) (l : p.depth ≤ length stack) (i : g ≡ take p.depth stack) (e : t ≡ turn_of p.focus (stack_of g (length g)) (lib.ListN.drop p.at text)) where
+    is_turn : t ≡ turn_at text p stack
+    is_turn =
+        e ∙ ap (λ (ks : List ℕ). turn_of p.focus ks (lib.ListN.drop p.at text)) (ap (λ (g : List ℕ). stack_of g (length g)) i ∙ sliced stack p.depth l)
 
-  pub turn_goes : (t : Turn) (r : Step) (stack' table' operands' : List ℕ) (k : ℕ) (m : Move) (n : ℕ) (q : Progress) → t ≡ turn_at text p stack → t ≡ Go k m n → r ≡ On q
-      → Took text house site p stack table operands k m n q stack' table' operands'
-      → Advanced text house site p stack table operands (turn_at text p stack) r stack' table' operands'
-  turn_goes t r stack' table' operands' k m n q e h s w =
-      subst (λ (x : Turn). Advanced text house site p stack table operands x r stack' table' operands') (sym h ∙ e) (record { to = q; on = s; took = w })
+    pub turn_stops : (n : ℕ) → t ≡ Err n → (stack' : List ℕ) (b' : Made)
+        → Advanced text house site p stack b (turn_at text p stack) (Err (Ungrammatical (p.at + n))) stack' b'
+    turn_stops n h stack' b' =
+        subst (λ (x : Turn). Advanced text house site p stack b x (Err (Ungrammatical (p.at + n))) stack' b') (sym h ∙ is_turn) refl
 
-  pub stop_within : (t : Turn) (n len : ℕ) → Within p.at len (turn_at text p stack) → t ≡ turn_at text p stack → t ≡ Halt n → p.at + n ≤ len
-  stop_within t n len w e h = subst (Within p.at len) (sym e ∙ h) w
+    pub turn_goes : (w : Word) (q : Progress) (stack' : List ℕ) (b' : Made) → t ≡ Ok w → Took text house site p stack b w.number w.step w.len q stack' b'
+        → Advanced text house site p stack b (turn_at text p stack) (Ok q) stack' b'
+    turn_goes w q stack' b' h v =
+        subst (λ (x : Turn). Advanced text house site p stack b x (Ok q) stack' b') (sym h ∙ is_turn) (record { to = q; on = refl; took = v })
 
-  pub word_within : (t : Turn) (k : ℕ) (m : Move) (n len : ℕ) → Within p.at len (turn_at text p stack) → t ≡ turn_at text p stack → t ≡ Go k m n → k < 38
-  word_within t k m n len w e h = (subst (Within p.at len) (sym e ∙ h) w).0
+    pub stop_within : (n len : ℕ) → t ≡ Err n → Within p.at len (turn_at text p stack) → p.at + n ≤ len
+    stop_within n len h w = subst (Within p.at len) (sym is_turn ∙ h) w
 
-  pub bytes_within : (t : Turn) (k : ℕ) (m : Move) (n len : ℕ) → Within p.at len (turn_at text p stack) → t ≡ turn_at text p stack → t ≡ Go k m n → p.at + n ≤ len
-  bytes_within t k m n len w e h = (subst (Within p.at len) (sym e ∙ h) w).1
+    pub word_within : (w : Word) (len : ℕ) → t ≡ Ok w → Within p.at len (turn_at text p stack) → (w.number < 38) × (p.at + w.len ≤ len)
+    word_within w len h v = subst (Within p.at len) (sym is_turn ∙ h) v

@@ -3,15 +3,19 @@
 // name tables for each name; the gaps stand in an array, so that the stack has the same size whatever the nesting.
 #![tactic(auto)]
 
-ghost use Rattle.std.specs.Prelude.{◌≡◌, cond, false, ◌+◌, ◌-◌, ◌≤◌, ◌<◌, length, ltb, eqb};
-ghost use Rattle.model.specs.Refusals.{verdict};
-ghost use Rattle.names.specs.declared.Tag.TheVariants.{Unknown};
-ghost use Rattle.entries.specs.Postfix.{Sound, made, blank};
-ghost use Rattle.reader.specs.Read.{bad_length, refusal, TableLeaves, ReadLeaves};
-ghost use Rattle.reader.specs.Turns.{beginning, sought_name, sought_at, opens, kept, moved, turn_at, Within, Took, Advanced, Finished, ReadsTo, reading_checks};
+ghost use Rattle.std.specs.Prelude.{◌≡◌, cond, ◌+◌, ◌-◌, ◌≤◌, ◌<◌, length, ltb, eqb};
+ghost use Rattle.model.specs.Refusals.{told, told_read, verdict};
+ghost use Rattle.entries.specs.Builder.{made_of};
+ghost use Rattle.entries.specs.Postfix.{blank};
+ghost use Rattle.reader.specs.Read.{bad_length, TableLeaves, ReadLeaves};
+ghost use Rattle.reader.specs.Turns.{beginning, sought_at, opens, kept, moved, turn_at, Within, Took, Advanced, place_checks, any_in, place_in, Finished, ReadsTo};
+
+use entries::Builder;
+use machine::Word;
+use model::{Read, Refusal};
 
 // How far the reading has come: the place in the text; the gaps that are open, and the focus; the axis that was read last, and
-// the place where the last name begins; whether a name had no tag, and the place of the first such; and the table so far.
+// the place where the last name begins; and the place of the first name that had no tag, if one had none.
 #[derive(Clone, Copy)]
 pub struct Progress {
     pub at: usize,
@@ -19,34 +23,14 @@ pub struct Progress {
     pub focus: u8,
     pub axis: u16,
     pub start: usize,
-    pub unknown: bool,
-    pub place: usize,
-    pub draft: entries::Draft,
+    pub unknown: Option<usize>,
 }
 
-// What a name comes to: its tag, and whether one so far had none, with the place of the first such.
-#[derive(Drop)]
+// What a name comes to: its tag, and the place of the first so far that has none.
+#[derive(Clone, Copy)]
 pub struct Sought {
     pub tag: u16,
-    pub unknown: bool,
-    pub place: usize,
-}
-
-// A turn of the reading: it goes on, or no grammatical text goes on from a place.
-#[derive(Drop)]
-pub enum Step {
-    On(Progress),
-    Stuck(usize),
-}
-
-// A text read to its end, or no further: whether it is grammatical, and the place where it stopped; then the names and the table.
-#[derive(Clone, Copy)]
-pub struct Reading {
-    pub readable: bool,
-    pub stop: usize,
-    pub unknown: bool,
-    pub place: usize,
-    pub draft: entries::Draft,
+    pub unknown: Option<usize>,
 }
 
 // Before the first byte.
@@ -59,45 +43,12 @@ fn first_place() -> Progress
         focus: 0,
         axis: 0,
         start: 0,
-        unknown: false,
-        place: 0,
-        draft: entries::new_draft(),
-    }
-}
-
-// A name without a tag: the place of the first such.
-fn first_unknown(p: Progress) -> Sought
-    ensures { result ≡ sought_name Unknown p }
-{
-    if p.unknown {
-        return Sought {
-            tag: 0,
-            unknown: true,
-            place: p.place,
-        };
-    }
-    Sought {
-        tag: 0,
-        unknown: true,
-        place: p.start,
-    }
-}
-
-// A name with that tag, or with none.
-fn sought_name(t: names::Tag, p: Progress) -> Sought
-    ensures { result ≡ sought_name t p }
-{
-    match t {
-        names::Tag::Known(g) => Sought {
-            tag: g,
-            unknown: p.unknown,
-            place: p.place,
-        },
-        names::Tag::Unknown => first_unknown(p),
+        unknown: None,
     }
 }
 
 // The name that ends at the place, if one does.
+#[tactic(auto, unfolding(crate::specs::Turns::sought_at))]
 fn name_before(text: &[u8], house: &[u8], site: &[u8], p: Progress, ended: bool) -> Sought
     requires { (p.start ≤ p.at) × (p.at ≤ length text.now) }
     ensures { result ≡ sought_at text.now house.now site.now p ended }
@@ -107,109 +58,104 @@ fn name_before(text: &[u8], house: &[u8], site: &[u8], p: Progress, ended: bool)
         return Sought {
             tag: 0,
             unknown: p.unknown,
-            place: p.place,
         };
     }
-    let start = p.start;
-    let at = p.at;
-    sought_name(names::tag_of(house, site, &text[start..at]), p)
+    match names::tag_of(house, site, &text[p.start..p.at]) {
+        Some(tag) => Sought {
+            tag: tag,
+            unknown: p.unknown,
+        },
+        None => Sought {
+            tag: 0,
+            unknown: Some(p.unknown.unwrap_or(p.start)),
+        },
+    }
 }
 
 // The axis that was read last.
 fn axis_after(k: usize, axis: u16) -> u16
     ensures { result ≡ cond (ltb k 13) k axis }
 {
-    let new = k < 13;
-    if new {
-        return k as u16;
-    }
-    axis
+    if k < 13 { k as u16 } else { axis }
 }
 
 // The place where the last name begins.
 fn start_after(focus: u8, at: usize, start: usize) -> usize
     ensures { result ≡ cond (eqb focus 1) at start }
 {
-    let new = focus == 1;
-    if new {
-        return at;
-    }
-    start
+    if focus == 1 { at } else { start }
 }
 
 // The place after a word, which leaves so many gaps open.
-fn place_after(
-    p: Progress,
-    k: usize,
-    m: machine::Move,
-    n: usize,
-    depth: usize,
-    s: Sought,
-    d: entries::Draft,
-) -> Progress
-    requires { (p.at + n ≤ 1024) × (depth ≡ kept p m + opens m) }
-    ensures { result ≡ moved p k m n s d }
+#[tactic(auto, unfolding(crate::specs::Turns::moved))]
+fn place_after(p: Progress, w: Word, depth: usize, s: Sought) -> Progress
+    requires { (p.at + w.len ≤ 1024) × (depth ≡ kept p w.step + opens w.step) }
+    ensures { result ≡ moved p w.number w.step w.len s }
 {
     Progress {
-        at: p.at + n,
+        at: p.at + w.len,
         depth: depth,
-        focus: m.focus,
-        axis: axis_after(k, p.axis),
+        focus: w.step.focus,
+        axis: axis_after(w.number, p.axis),
         start: start_after(p.focus, p.at, p.start),
         unknown: s.unknown,
-        place: s.place,
-        draft: d,
     }
 }
 
-// Reads the word k: the name before it is looked up, the entries that it completes are written, gaps close, and one may open.
+// Reads a word: the name before it is looked up, the entries that it completes are written, gaps close, and one may open.
 fn take_word(
     text: &[u8],
     house: &[u8],
     site: &[u8],
     stack: &mut [u8],
-    table: &mut [u16],
-    operands: &mut [u16],
+    b: &mut Builder,
     p: Progress,
-    k: usize,
-    m: machine::Move,
-    n: usize,
+    w: Word,
 ) -> Progress
-    requires { (p.start ≤ p.at) × (p.at + n ≤ length text.now) × (length text.now ≤ 1024) × (p.depth ≤ p.at) × (p.at < 1024) × (k < 38) × (length stack.old ≡ 1024) × Sound (made p.draft table.old operands.old) }
-    ensures { Took text.now house.now site.now p stack.old table.old operands.old
-        k m n result stack.new table.new operands.new }
+    requires { (p.start ≤ p.at) × (p.at + w.len ≤ length text.now) × (length text.now ≤ 1024) × (p.depth ≤ p.at) × (p.at < 1024) × (w.number < 38) × (length stack.old ≡ 1024) }
+    ensures { Took text.now house.now site.now p stack.old (made_of b.old)
+        w.number w.step w.len result stack.new (made_of b.new) }
 {
+    let k = w.number;
     let s = name_before(text, house, site, p, k < 34);
-    let d = emission::write_word(
-        stack, p.depth, p.focus, k, p.axis, s.tag, table, operands, p.draft,
-    );
-    let depth = machine::make(m, stack, p.depth);
-    place_after(p, k, m, n, depth, s, d)
+    emission::write_word(&stack[..p.depth], p.focus, k, p.axis, s.tag, b);
+    let depth = machine::make(w.step, stack, p.depth);
+    place_after(p, w, depth, s)
 }
 
-// One turn.
+// One turn: the reading goes on, or no grammatical text goes on from a place.
 fn advance(
     text: &[u8],
     house: &[u8],
     site: &[u8],
     stack: &mut [u8],
-    table: &mut [u16],
-    operands: &mut [u16],
+    b: &mut Builder,
     p: Progress,
-) -> Step
-    requires { Within p.at (length text.now) (turn_at text.now p stack.old) × (p.at < length text.now) × (length text.now ≤ 1024) × (p.start ≤ p.at) × (p.depth ≤ p.at) × (length stack.old ≡ 1024) × Sound (made p.draft table.old operands.old) }
-    ensures { Advanced text.now house.now site.now p stack.old table.old operands.old
+) -> Result<Progress, Refusal>
+    requires { Within p.at (length text.now) (turn_at text.now p stack.old) × (p.at < length text.now) × (length text.now ≤ 1024) × (p.start ≤ p.at) × (p.depth ≤ p.at) × (length stack.old ≡ 1024) }
+    ensures { Advanced text.now house.now site.now p stack.old (made_of b.old)
         (turn_at text.now p stack.old)
-        result stack.new table.new operands.new }
+        result stack.new (made_of b.new) }
 {
     let at = p.at;
-    match machine::step(p.focus, stack, p.depth, text, at) {
-        machine::Turn::Halt(n) => {
-            return Step::Stuck(at + n);
-        }
-        machine::Turn::Go(k, m, n) => {
-            return Step::On(take_word(text, house, site, stack, table, operands, p, k, m, n));
-        }
+    match machine::step(p.focus, &stack[..p.depth], text, at) {
+        Ok(w) => Ok(take_word(text, house, site, stack, b, p, w)),
+        Err(n) => Err(Refusal::Ungrammatical((at + n) as u16)),
+    }
+}
+
+// The verdict where the text ends: 24 unless it is grammatical, and 25 if a name has no tag.
+#[tactic(auto, unfolding(model::specs::Refusals::verdict))]
+fn judge(at: usize, grammatical: bool, unknown: Option<usize>) -> Result<(), Refusal>
+    requires { (at ≤ 1024) × (place_in unknown ≤ 1024) }
+    ensures { told result ≡ verdict (place_checks at grammatical (place_in unknown) (any_in unknown)) }
+{
+    if !grammatical {
+        return Err(Refusal::Ungrammatical(at as u16));
+    }
+    match unknown {
+        Some(place) => Err(Refusal::UnknownName(place as u16)),
+        None => Ok(()),
     }
 }
 
@@ -219,76 +165,30 @@ fn finish(
     house: &[u8],
     site: &[u8],
     stack: &[u8],
-    table: &mut [u16],
-    operands: &mut [u16],
+    b: &mut Builder,
     p: Progress,
-) -> Reading
-    requires { (p.start ≤ p.at) × (p.at ≤ length text.now) × (p.depth ≤ length stack.now) × Sound (made p.draft table.old operands.old) }
-    ensures { Finished text.now house.now site.now p stack.now table.old operands.old
-        result table.new operands.new }
+) -> Result<(), Refusal>
+    requires { (p.start ≤ p.at) × (p.at ≤ length text.now) × (length text.now ≤ 1024) × (p.depth ≤ length stack.now) × (place_in p.unknown ≤ p.at) }
+    ensures { Finished text.now house.now site.now p stack.now (made_of b.old)
+        result (made_of b.new) }
 {
+    let gaps = &stack[..p.depth];
     let s = name_before(text, house, site, p, true);
-    let d = emission::write_end(
-        stack, p.depth, p.focus, p.axis, s.tag, table, operands, p.draft,
-    );
-    Reading {
-        readable: machine::may_end(p.focus, stack, p.depth),
-        stop: p.at,
-        unknown: s.unknown,
-        place: s.place,
-        draft: d,
-    }
+    emission::write_end(gaps, p.focus, p.axis, s.tag, b);
+    judge(p.at, machine::may_end(p.focus, gaps), s.unknown)
 }
 
-// A text that no grammatical text goes on with.
-fn stuck(place: usize) -> Reading
-    ensures { (result.readable ≡ false) × (result.stop ≡ place) × (result.place ≡ 0) × (result.draft ≡ blank) }
-{
-    Reading {
-        readable: false,
-        stop: place,
-        unknown: false,
-        place: 0,
-        draft: entries::new_draft(),
-    }
-}
-
-// Reads a text of at most 1,024 bytes into a table of 64 entries. One turn a word, and one a byte of a name.
-fn read_text(text: &[u8], house: &[u8], site: &[u8], table: &mut [u16]) -> Reading
-    requires { (length text.now ≤ 1024) × (length table.old ≡ 256) }
-    ensures { ReadsTo text.now house.now site.now result table.new }
+// Reads a text of at most 1,024 bytes into a table of 64 entries: 24 and 25. One turn a word, and one a byte of a name.
+fn read_text(text: &[u8], house: &[u8], site: &[u8], b: &mut Builder) -> Result<(), Refusal>
+    requires { (length text.now ≤ 1024) × ((made_of b.old).draft ≡ blank) }
+    ensures { ReadsTo text.now house.now site.now result (made_of b.new) }
 {
     let mut stack = [0u8; 1024];
-    let mut operands = [0u16; 64];
     let mut p = first_place();
     while p.at < text.len() {
-        match advance(text, house, site, &mut stack, table, &mut operands, p) {
-            Step::Stuck(place) => {
-                return stuck(place);
-            }
-            Step::On(next) => {
-                p = next;
-            }
-        }
+        p = advance(text, house, site, &mut stack, b, p)?;
     }
-    finish(text, house, site, &stack, table, &mut operands, p)
-}
-
-// The verdict over a reading: 24, 25, 26 and 20.
-fn check_reading(r: Reading, room: usize) -> model::Reply
-    requires { (r.stop < 65536) × (r.place < 65536) × (r.draft.entries ≤ 65) }
-    ensures { result ≡ verdict (reading_checks r room) }
-{
-    let unreadable = !r.readable;
-    if unreadable {
-        return model::reply_at(24, r.stop);
-    }
-    let unknown = r.unknown;
-    if unknown {
-        return model::reply_at(25, r.place);
-    }
-    let d = r.draft;
-    entries::check_size(d.entries, room)
+    finish(text, house, site, &stack, b, p)
 }
 
 // The text is not 1 to 1,024 bytes long.
@@ -298,51 +198,30 @@ fn is_bad_length(n: usize) -> bool
     (n == 0) | (1024 < n)
 }
 
-// The reply of a refusal.
-fn refused(v: model::Reply) -> model::ReadReply
-    ensures { result ≡ refusal v }
-{
-    model::ReadReply {
-        number: v.number,
-        place: v.place,
-        count: 0,
-        columns: 0,
-    }
-}
-
 // The reading of a text of at most 1,024 bytes: 24, 25, 26, 20, or its table.
-fn read_table(text: &[u8], house: &[u8], site: &[u8], query: &mut [u16]) -> model::ReadReply
+fn read_table(text: &[u8], house: &[u8], site: &[u8], query: &mut [u16]) -> Result<Read, Refusal>
     requires { length text.now ≤ 1024 }
-    ensures { TableLeaves text.now house.now site.now query.old result query.new }
+    ensures { TableLeaves text.now house.now site.now query.old (told_read result) query.new }
 {
-    let mut table = [0u16; 256];
-    let r = read_text(text, house, site, &mut table);
-    let v = check_reading(r, query.len());
-    if v.number != 0 {
-        return refused(v);
-    }
-    let d = r.draft;
+    let mut b = Builder::new();
+    read_text(text, house, site, &mut b)?;
+    let d = b.draft();
+    entries::check_size(d.entries, query.len())?;
     let count = 4 * d.entries;
-    model::copy(&table, count, query);
-    model::ReadReply {
-        number: 0,
-        place: 0,
+    model::copy(b.table(), count, query);
+    Ok(Read {
         count: count,
         columns: d.columns as u16,
-    }
+    })
 }
 
 // The service: a typed query, read into a query table at the front of the buffer.
-pub fn read(text: &[u8], house: &[u8], site: &[u8], query: &mut [u16]) -> model::ReadReply
-    ensures { ReadLeaves text.now house.now site.now query.old result query.new }
+pub fn read(text: &[u8], house: &[u8], site: &[u8], query: &mut [u16]) -> Result<Read, Refusal>
+    ensures { ReadLeaves text.now house.now site.now query.old (told_read result) query.new }
 {
-    let v = names::check_tables(house, site);
-    if v.number != 0 {
-        return refused(v);
-    }
-    let wrong = is_bad_length(text.len());
-    if wrong {
-        return refused(model::reply_at(23, 0));
+    names::check_tables(house, site)?;
+    if is_bad_length(text.len()) {
+        return Err(Refusal::TextLength);
     }
     read_table(text, house, site, query)
 }

@@ -3,20 +3,20 @@ use Prim.Native.Nat.{ℕ, zero, suc, ◌*◌, ◌≤◌, ◌<◌}
 use native.Mathlib.Nat.{eq-or-lt_of_le}
 use native.Mathlib.Omega.{arith}
 use mathlib.Core.Path.{◌≡◌, refl, sym, ap, ◌∙◌, subst}
-use mathlib.Core.Logic.{◌⊎◌, ⊎_elim}
-use mathlib.Core.Bool.{Bool, true, false, not, cond}
+use mathlib.Core.Logic.{⊎_elim}
+use mathlib.Core.Bool.{true, false}
 use mathlib.Core.List.{List, [], ◌∷◌, ◌++◌, append_assoc}
 use lib.ListN.{length, get_or, take}
-use lib.Dec.{ltb, eqb}
-use borrow.Author.Tests.{not-true, not-false, eqb-true, ltb-true}
 use Rattle.model.specs.declared.Entry.{Entry}
+use Rattle.model.specs.declared.kind.Kind.{Kind}
+use Rattle.model.specs.Numbers.{kind_number}
 use Rattle.model.specs.Syntax.{Path}
 use Rattle.model.specs.Syntax.Path.{step, variable}
 use Rattle.model.specs.Encoding.{Term, path_term, expr_term, size}
 use Rattle.model.specs.QueryTable.{entries_of, kind, left, right, tag, entry, path_at, expr_at}
 use Rattle.model.specs.Kinds.{is_path, left_path, left_expr, right_path, right_expr, has_left, has_right, names_variable}
-use Rattle.model.proofs.Booleans.{Seen, yes!, no!, seen, no_yes, or_cases}
-use Rattle.model.proofs.KindTests.{is_path_by, path_on_left, path_on_right}
+use Rattle.model.proofs.Booleans.{no_yes}
+use Rattle.model.proofs.KindTests.{path_on_left, path_on_right}
 use Rattle.model.proofs.QueryTable.{at_step, at_compose, at_union, at_intersect, at_except, at_filter, at_variable, at_root, at_closure}
 use Rattle.model.proofs.Formed.{PathBefore, Read, read, left_lower, right_lower}
 use Rattle.model.proofs.Formed.Read.{step!, compose!, union!, intersect!, except!, filter!, variable!, root!, exists!, negate!, both!, either!, is!, closure!, same! }
@@ -25,7 +25,7 @@ use Rattle.aside.proofs.Terms.{Form, form}
 use Rattle.aside.proofs.Terms.Form.{none!, one!, two! }
 use Rattle.entries.specs.declared.Draft.{Draft}
 use Rattle.entries.specs.Postfix.{Item, Made, postfix, append_all, made, blank, Sound, Wrote}
-use Rattle.entries.proofs.Postfix.{wrote_on, blank_sound, built, entries_counted}
+use Rattle.entries.proofs.Postfix.{wrote_on, built, entries_counted}
 use Rattle.reversal.specs.Reversed.{converses, converse, self_at_root, reversed}
 use Rattle.reversal.specs.Building.{Reversible, Builds, BuildsPath, step_items, root_items, where_term, reversed_at, Makes}
 
@@ -101,16 +101,36 @@ pub known_converse : (a : ℕ) → a ≤ 12 → get_or converses a 0 ≡ convers
 unfolding converse
 known_converse a h = known_at converses a 0 13 (omega arith)
 
--- the kinds of paths that are made of paths
+-- the kinds that have an arm of their own when a path is reversed
+pub record Others (k : Kind) : Type 0 where
+  pub no_step : k ≡ Kind.Step → ⊥
+  pub no_compose : k ≡ Kind.Compose → ⊥
+  pub no_filter : k ≡ Kind.Filter → ⊥
+  pub no_variable : k ≡ Kind.Variable → ⊥
+  pub no_root : k ≡ Kind.Root → ⊥
+  pub no_star : k ≡ Kind.Star → ⊥
 
-path_kind_lem : (k : ℕ) → is_path k ≡ true → (k ≤ 7) ⊎ (k ≡ 13)
-path_kind_lem k h =
-    ⊎_elim (λ p. ◌⊎◌.inl (let l = ltb-true k 8 p in omega arith)) (λ p. ◌⊎◌.inr (eqb-true k 13 p)) (or_cases (ltb k 8) (eqb k 13) (sym (is_path_by k) ∙ h))
+-- the paths among the rest are union, intersect and except
+path_kinds : (k : Kind) → is_path (kind_number k) ≡ true → Others k → (1 < kind_number k) × (kind_number k ≤ 4)
+unfolding is_path
+path_kinds Kind.Step p o = absurd (o.no_step refl)
+path_kinds Kind.Compose p o = absurd (o.no_compose refl)
+path_kinds Kind.Union p o = (omega arith, omega arith)
+path_kinds Kind.Intersect p o = (omega arith, omega arith)
+path_kinds Kind.Except p o = (omega arith, omega arith)
+path_kinds Kind.Filter p o = absurd (o.no_filter refl)
+path_kinds Kind.Variable p o = absurd (o.no_variable refl)
+path_kinds Kind.Root p o = absurd (o.no_root refl)
+path_kinds Kind.Exists p o = no_yes refl p
+path_kinds Kind.Not p o = no_yes refl p
+path_kinds Kind.And p o = no_yes refl p
+path_kinds Kind.Or p o = no_yes refl p
+path_kinds Kind.Is p o = no_yes refl p
+path_kinds Kind.Star p o = absurd (o.no_star refl)
+path_kinds Kind.Same p o = no_yes refl p
 
-left_of : (k : ℕ) → is_path k ≡ true → (k ≡ 0 → ⊥) → (k ≡ 6 → ⊥) → left_path k ≡ true
-unfolding left_path
-left_of k h z v =
-    ⊎_elim (λ l. ⊎_elim (λ s. rw s) (λ l. path_on_left {k = k} (omega arith) (omega arith)) (eq-or-lt_of_le l)) (λ s. rw s) (path_kind_lem k h)
+two_kinds : (k : Kind) (i : ℕ) → kind_number k ≡ i → is_path i ≡ true → Others k → (1 < kind_number k) × (kind_number k ≤ 4)
+two_kinds k i e p = path_kinds k (subst (λ (j : ℕ). is_path j ≡ true) (sym e) p)
 
 -- an entry that can be reversed
 module _ (q : List ℕ) (ok : Reversible q) (e : ℕ) (within : e < entries_of q) where
@@ -184,33 +204,27 @@ module _ (q : List ℕ) (ok : Reversible q) (e : ℕ) (within : e < entries_of q
   unfolding left_path reversed path_term
   turned_closure h = turned_as _ (at_closure q e h (left_path_lem (rw h)).0)
 
-  -- the operands of kinds 1 to 4 in the order in which they are reversed: those of compose are swapped
+  two_right : 0 < kind q e → kind q e ≤ 4 → PathBefore q e (right q e)
+  two_right some most = ok.formed.right_path_lem e within (path_on_right some (omega arith))
 
-  abbrev first : ℕ
-  first = cond (eqb (kind q e) 1) (right q e) (left q e)
+  -- the operands of a composition are swapped
 
-  abbrev second : ℕ
-  second = cond (eqb (kind q e) 1) (left q e) (right q e)
+  turned_compose : kind q e ≡ 1 → turned e ≡ Term.binary 1 (turned (right q e)) (turned (left q e))
+  unfolding left_path reversed path_term
+  turned_compose h = turned_as _ (at_compose q e h (left_path_lem (rw h)).0 (two_right (omega arith) (omega arith)).0)
 
-  module _ (some : 0 < kind q e) (most : kind q e ≤ 4) where
-    two_left : PathBefore q e (left q e)
-    two_left = left_path_lem (path_on_left some (omega arith))
+  -- those of union, intersect and except are not
 
-    two_right : PathBefore q e (right q e)
-    two_right = ok.formed.right_path_lem e within (path_on_right some (omega arith))
-
-    turned_two : turned e ≡ Term.binary (kind q e) (turned first) (turned second)
-    unfolding reversed path_term
-    turned_two =
-        let l = two_left.0 in
-        let r = two_right.0 in
-        ⊎_elim (λ h. turned_as _ (at_except q e h l r) ∙ rw h)
-        (λ m. ⊎_elim (λ h. turned_as _ (at_intersect q e h l r) ∙ rw h)
-        (λ m. ⊎_elim (λ h. turned_as _ (at_union q e h l r) ∙ rw h)
-        (λ m. let h : kind q e ≡ 1 = omega arith in turned_as _ (at_compose q e h l r) ∙ rw h)
-        (eq-or-lt_of_le (let n : kind q e ≤ 2 = omega arith in n)))
-        (eq-or-lt_of_le (let n : kind q e ≤ 3 = omega arith in n)))
-        (eq-or-lt_of_le most)
+  turned_two : 1 < kind q e → kind q e ≤ 4 → turned e ≡ Term.binary (kind q e) (turned (left q e)) (turned (right q e))
+  unfolding reversed path_term
+  turned_two some most =
+      let l = (left_path_lem (path_on_left (omega arith) (omega arith))).0 in
+      let r = (two_right (omega arith) most).0 in
+      ⊎_elim (λ h. turned_as _ (at_except q e h l r) ∙ rw h)
+      (λ m. ⊎_elim (λ h. turned_as _ (at_intersect q e h l r) ∙ rw h)
+      (λ m. let h : kind q e ≡ 2 = omega arith in turned_as _ (at_union q e h l r) ∙ rw h)
+      (eq-or-lt_of_le (let n : kind q e ≤ 3 = omega arith in n)))
+      (eq-or-lt_of_le most)
 
   -- the same for its four numbers as they were read
   module _ (f : Entry) (at : f ≡ entry q e) where
@@ -220,134 +234,122 @@ module _ (q : List ℕ) (ok : Reversible q) (e : ℕ) (within : e < entries_of q
     same_kind : f.kind ≡ kind q e
     same_kind = ap (λ (g : Entry). g.kind) at
 
-    pub kind_fits : f.kind < 65536
-    kind_fits = numbers (λ (g : Entry). g.kind < 65536) (omega (arith, ok.formed.known e within))
-
     pub tag_fits : tag q e < 65536 → f.tag < 65536
     tag_fits h = numbers (λ (g : Entry). g.tag < 65536) h
 
     pub axis_known : f.kind ≡ 0 → f.left ≤ 12
     axis_known = numbers (λ (g : Entry). g.kind ≡ 0 → g.left ≤ 12) (ok.axis e within)
 
-    -- its copy; a and b tell whether there is a left and a right operand
+    -- its copy
 
-    pub copied_left : (a : Bool) → a ≡ has_left f.kind → not a ≡ false → f.left < e
-    copied_left a i h = numbers (λ (g : Entry). has_left g.kind ≡ true → g.left < e) (left_lower q ok.formed e within) (sym i ∙ not-false a h)
+    pub copied_left : true ≡ has_left f.kind → f.left < e
+    copied_left h = numbers (λ (g : Entry). has_left g.kind ≡ true → g.left < e) (left_lower q ok.formed e within) (sym h)
 
-    pub copied_right : (b : Bool) → b ≡ has_right f.kind → not b ≡ false → f.right < e
-    copied_right b i h = numbers (λ (g : Entry). has_right g.kind ≡ true → g.right < e) (right_lower q ok.formed e within) (sym i ∙ not-false b h)
+    pub copied_right : true ≡ has_right f.kind → f.right < e
+    copied_right h = numbers (λ (g : Entry). has_right g.kind ≡ true → g.right < e) (right_lower q ok.formed e within) (sym h)
 
-    module _ (a : Bool) (Has-left : a ≡ has_left f.kind) where
+    -- k is its kind, as it was decoded
+    module _ (k : ℕ) (is : k ≡ f.kind) where
+      of_kind : k ≡ kind q e
+      of_kind = is ∙ same_kind
+
+      read_as : (P : ℕ → Type 0) → P k → P (kind q e)
+      read_as P = subst P of_kind
+
       module _ (m n : Made) where
-        pub copies_leaf : Wrote (Item.leaf f.kind f.left f.tag ∷ []) m n → not a ≡ true → Builds (term_at q e) m n
-        copies_leaf w h =
-            numbers (λ (g : Entry). Wrote (Item.leaf g.kind g.left g.tag ∷ []) m n → has_left g.kind ≡ false → Builds (term_at q e) m n)
-            (λ w l. subst (λ (t : Term). Builds t m n) (sym (leaf_of (read q ok.formed e within) l)) (builds_leaf (kind q e) (left q e) (tag q e) m n w))
-            w (sym Has-left ∙ not-true a h)
+        pub copies_leaf : Wrote (Item.leaf k f.left f.tag ∷ []) m n → false ≡ has_left f.kind → Builds (term_at q e) m n
+        copies_leaf w =
+            numbers (λ (g : Entry). Wrote (Item.leaf k g.left g.tag ∷ []) m n → false ≡ has_left g.kind → Builds (term_at q e) m n)
+            (λ w l. subst (λ (t : Term). Builds t m n) (sym (leaf_of (read q ok.formed e within) (sym l)))
+            (builds_leaf (kind q e) (left q e) (tag q e) m n (read_as (λ (j : ℕ). Wrote (Item.leaf j (left q e) (tag q e) ∷ []) m n) w)))
+            w
 
-        module _ (o : Made) (u : Builds (term_at q f.left) m n) (h : not a ≡ false) (b : Bool) (Has-right : b ≡ has_right f.kind) where
-          pub copies_unary : Wrote (Item.unary f.kind ∷ []) n o → not b ≡ true → Builds (term_at q e) m o
-          copies_unary w k =
-              numbers (λ (g : Entry). Builds (term_at q g.left) m n → Wrote (Item.unary g.kind ∷ []) n o → has_left g.kind ≡ true → has_right g.kind ≡ false → Builds (term_at q e) m o)
-              (λ u w l r. subst (λ (t : Term). Builds t m o) (sym (one_term l r)) (builds_unary (kind q e) (term_at q (left q e)) m n o w u))
-              u w (sym Has-left ∙ not-false a h) (sym Has-right ∙ not-true b k)
+        module _ (o : Made) (u : Builds (term_at q f.left) m n) (l : true ≡ has_left f.kind) where
+          pub copies_unary : Wrote (Item.unary k ∷ []) n o → false ≡ has_right f.kind → Builds (term_at q e) m o
+          copies_unary w =
+              numbers (λ (g : Entry). Builds (term_at q g.left) m n → true ≡ has_left g.kind → false ≡ has_right g.kind → Builds (term_at q e) m o)
+              (λ u l r. subst (λ (t : Term). Builds t m o) (sym (one_term (sym l) (sym r)))
+              (builds_unary (kind q e) (term_at q (left q e)) m n o (read_as (λ (j : ℕ). Wrote (Item.unary j ∷ []) n o) w) u))
+              u l
 
-          pub copies_binary : (r : Made) → Wrote (Item.binary f.kind ∷ []) o r → Builds (term_at q f.right) n o → not b ≡ false → Builds (term_at q e) m r
-          copies_binary r w v k =
-              numbers (λ (g : Entry). Builds (term_at q g.left) m n → Builds (term_at q g.right) n o → Wrote (Item.binary g.kind ∷ []) o r → has_left g.kind ≡ true → has_right g.kind ≡ true → Builds (term_at q e) m r)
-              (λ u v w l r'. subst (λ (t : Term). Builds t m r) (sym (two_term l r')) (builds_binary (kind q e) (term_at q (left q e)) (term_at q (right q e)) m n o r w v u))
-              u v w (sym Has-left ∙ not-false a h) (sym Has-right ∙ not-false b k)
+          pub copies_binary : (r : Made) → Wrote (Item.binary k ∷ []) o r → Builds (term_at q f.right) n o → true ≡ has_right f.kind → Builds (term_at q e) m r
+          copies_binary r w v =
+              numbers (λ (g : Entry). Builds (term_at q g.left) m n → Builds (term_at q g.right) n o → true ≡ has_left g.kind → true ≡ has_right g.kind → Builds (term_at q e) m r)
+              (λ u v l h. subst (λ (t : Term). Builds t m r) (sym (two_term (sym l) (sym h)))
+              (builds_binary (kind q e) (term_at q (left q e)) (term_at q (right q e)) m n o r (read_as (λ (j : ℕ). Wrote (Item.binary j ∷ []) o r) w) v u))
+              u v l
 
-    -- reversed: the operands that are reversed or copied
-    pub filter_left : f.kind ≡ 5 → PathBefore q e f.left
-    unfolding left_path
-    filter_left = numbers (λ (g : Entry). g.kind ≡ 5 → PathBefore q e g.left) (λ h. left_path_lem (rw h))
+      -- reversed: the operands that are reversed or copied
 
-    pub filter_right : f.kind ≡ 5 → f.right < e
-    unfolding right_expr
-    filter_right = numbers (λ (g : Entry). g.kind ≡ 5 → g.right < e) (λ h. (ok.formed.right_expr_lem e within (rw h)).0)
+      pub path_left : left_path k ≡ true → PathBefore q e f.left
+      path_left h = numbers (λ (g : Entry). PathBefore q e g.left) (left_path_lem (read_as (λ (j : ℕ). left_path j ≡ true) h))
 
-    -- the operand that is reversed first, or alone: the right one of kind j, the left one of the others
-    module _ (x j : ℕ) (chosen : x ≡ cond (eqb f.kind j) f.right f.left) where
-      pub first_before : right_path j ≡ true → is_path (kind q e) ≡ true → (f.kind ≡ 0 → ⊥) → (f.kind ≡ 6 → ⊥) → PathBefore q e x
-      first_before s h =
-          numbers (λ (g : Entry). x ≡ cond (eqb g.kind j) g.right g.left → (g.kind ≡ 0 → ⊥) → (g.kind ≡ 6 → ⊥) → PathBefore q e x)
-          (λ c z v. subst (PathBefore q e) (sym c) (go z v (seen (eqb (kind q e) j)))) chosen
-        where
-          go : (kind q e ≡ 0 → ⊥) → (kind q e ≡ 6 → ⊥) → Seen (eqb (kind q e) j) → PathBefore q e (cond (eqb (kind q e) j) (right q e) (left q e))
-          go z v (yes! t) = rw t (ok.formed.right_path_lem e within (rw (eqb-true (kind q e) j t) s))
-          go z v (no! t) = rw t (left_path_lem (left_of (kind q e) h z v))
+      pub path_right : right_path k ≡ true → PathBefore q e f.right
+      path_right h = numbers (λ (g : Entry). PathBefore q e g.right) (ok.formed.right_path_lem e within (read_as (λ (j : ℕ). right_path j ≡ true) h))
 
-      module _ (m n o : Made) (u : BuildsPath (reversed_at q x) m n) where
-        alone : (k : ℕ) → eqb k j ≡ false → f.kind ≡ k → BuildsPath (reversed_at q (left q e)) m n
-        alone k s h = subst (λ (y : ℕ). BuildsPath (reversed_at q y) m n) (chosen ∙ rw (h, s) (ap (λ (g : Entry). g.left) at)) u
-
-        pub reverses_root : Wrote root_items n o → f.kind ≡ 7 → eqb 7 j ≡ false → BuildsPath (reversed_at q e) m o
-        reverses_root w h s =
-            subst (λ (t : Term). Builds t m o) (sym (turned_root (sym same_kind ∙ h))) (builds_rooted (turned (left q e)) m n o w (alone 7 s h))
-
-        pub reverses_closure : Wrote (Item.unary 13 ∷ []) n o → f.kind ≡ 13 → eqb 13 j ≡ false → BuildsPath (reversed_at q e) m o
-        reverses_closure w h s =
-            subst (λ (t : Term). Builds t m o) (sym (turned_closure (sym same_kind ∙ h))) (builds_unary 13 (turned (left q e)) m n o w (alone 13 s h))
+      pub test_right : right_expr k ≡ true → f.right < e
+      test_right h = numbers (λ (g : Entry). g.right < e) (ok.formed.right_expr_lem e within (read_as (λ (j : ℕ). right_expr j ≡ true) h)).0
 
     -- what is written, by the kind
     module _ (m n : Made) where
-      pub reverses_step : BuildsPath (reversed (step f.left f.tag)) m n → f.kind ≡ 0 → BuildsPath (reversed_at q e) m n
+      pub reverses_step : BuildsPath (reversed (step f.left f.tag)) m n → 0 ≡ f.kind → BuildsPath (reversed_at q e) m n
       reverses_step =
-          numbers (λ (g : Entry). BuildsPath (reversed (step g.left g.tag)) m n → g.kind ≡ 0 → BuildsPath (reversed_at q e) m n)
-          (λ w h. subst (λ (p : Path). BuildsPath (reversed p) m n) (sym (at_step q e h)) w)
+          numbers (λ (g : Entry). BuildsPath (reversed (step g.left g.tag)) m n → 0 ≡ g.kind → BuildsPath (reversed_at q e) m n)
+          (λ w h. subst (λ (p : Path). BuildsPath (reversed p) m n) (sym (at_step q e (sym h))) w)
 
-      pub reverses_variable : BuildsPath (reversed (variable f.left)) m n → f.kind ≡ 6 → BuildsPath (reversed_at q e) m n
+      pub reverses_variable : BuildsPath (reversed (variable f.left)) m n → 6 ≡ f.kind → BuildsPath (reversed_at q e) m n
       reverses_variable =
-          numbers (λ (g : Entry). BuildsPath (reversed (variable g.left)) m n → g.kind ≡ 6 → BuildsPath (reversed_at q e) m n)
-          (λ w h. subst (λ (p : Path). BuildsPath (reversed p) m n) (sym (at_variable q e h)) w)
+          numbers (λ (g : Entry). BuildsPath (reversed (variable g.left)) m n → 6 ≡ g.kind → BuildsPath (reversed_at q e) m n)
+          (λ w h. subst (λ (p : Path). BuildsPath (reversed p) m n) (sym (at_variable q e (sym h))) w)
 
-      pub reverses_filter : (o r : Made) → Wrote (Item.binary 1 ∷ []) o r → BuildsPath (reversed_at q f.left) n o → Builds (where_term q f.right) m n → f.kind ≡ 5 → BuildsPath (reversed_at q e) m r
+      pub reverses_root : (o : Made) → Wrote root_items n o → BuildsPath (reversed_at q f.left) m n → 7 ≡ f.kind → BuildsPath (reversed_at q e) m o
+      reverses_root o w =
+          numbers (λ (g : Entry). BuildsPath (reversed_at q g.left) m n → 7 ≡ g.kind → BuildsPath (reversed_at q e) m o)
+          (λ u h. subst (λ (t : Term). Builds t m o) (sym (turned_root (sym h))) (builds_rooted (turned (left q e)) m n o w u))
+
+      pub reverses_closure : (o : Made) → Wrote (Item.unary 13 ∷ []) n o → BuildsPath (reversed_at q f.left) m n → 13 ≡ f.kind → BuildsPath (reversed_at q e) m o
+      reverses_closure o w =
+          numbers (λ (g : Entry). BuildsPath (reversed_at q g.left) m n → 13 ≡ g.kind → BuildsPath (reversed_at q e) m o)
+          (λ u h. subst (λ (t : Term). Builds t m o) (sym (turned_closure (sym h))) (builds_unary 13 (turned (left q e)) m n o w u))
+
+      pub reverses_filter : (o r : Made) → Wrote (Item.binary 1 ∷ []) o r → BuildsPath (reversed_at q f.left) n o → Builds (where_term q f.right) m n → 5 ≡ f.kind → BuildsPath (reversed_at q e) m r
       reverses_filter o r w =
-          numbers (λ (g : Entry). BuildsPath (reversed_at q g.left) n o → Builds (where_term q g.right) m n → g.kind ≡ 5 → BuildsPath (reversed_at q e) m r)
-          (λ v u h. subst (λ (t : Term). Builds t m r) (sym (turned_filter h)) (builds_binary 1 (where_term q (right q e)) (turned (left q e)) m n o r w v u))
+          numbers (λ (g : Entry). BuildsPath (reversed_at q g.left) n o → Builds (where_term q g.right) m n → 5 ≡ g.kind → BuildsPath (reversed_at q e) m r)
+          (λ v u h. subst (λ (t : Term). Builds t m r) (sym (turned_filter (sym h))) (builds_binary 1 (where_term q (right q e)) (turned (left q e)) m n o r w v u))
+
+      pub reverses_compose : (o r : Made) → Wrote (Item.binary 1 ∷ []) o r → BuildsPath (reversed_at q f.left) n o → BuildsPath (reversed_at q f.right) m n → 1 ≡ f.kind → BuildsPath (reversed_at q e) m r
+      reverses_compose o r w =
+          numbers (λ (g : Entry). BuildsPath (reversed_at q g.left) n o → BuildsPath (reversed_at q g.right) m n → 1 ≡ g.kind → BuildsPath (reversed_at q e) m r)
+          (λ v u h. subst (λ (t : Term). Builds t m r) (sym (turned_compose (sym h))) (builds_binary 1 (turned (right q e)) (turned (left q e)) m n o r w v u))
 
     -- the kinds that are left
-    module _ (path : is_path (kind q e) ≡ true) (no_step : f.kind ≡ 0 → ⊥) (no_variable : f.kind ≡ 6 → ⊥) (no-filter : f.kind ≡ 5 → ⊥)
-        (no-root : f.kind ≡ 7 → ⊥) (no-closure : f.kind ≡ 13 → ⊥) where
-      two_some : 0 < kind q e
-      two_some = omega (arith, same_kind)
+    module _ (k : Kind) (is : kind_number k ≡ f.kind) (path : is_path (kind q e) ≡ true) (others : Others k) where
+      between : (1 < kind_number k) × (kind_number k ≤ 4)
+      between = two_kinds k (kind q e) (is ∙ same_kind) path others
 
-      two_most : kind q e ≤ 4
-      two_most = ⊎_elim (λ l. omega (arith, same_kind)) (λ h. absurd (no-closure (same_kind ∙ h))) (path_kind_lem (kind q e) path)
+      pub two_before : PathBefore q e f.left × PathBefore q e f.right
+      two_before =
+          let b = between in
+          (path_left (kind_number k) is (path_on_left (omega arith) (omega arith)), path_right (kind_number k) is (path_on_right (omega arith) (omega arith)))
 
-      pub second_before : (y j : ℕ) → y ≡ cond (eqb f.kind j) f.left f.right → PathBefore q e y
-      second_before y j =
-          numbers (λ (g : Entry). y ≡ cond (eqb g.kind j) g.left g.right → PathBefore q e y)
-          (λ c. subst (PathBefore q e) (sym c) (go (seen (eqb (kind q e) j))))
-        where
-          go : Seen (eqb (kind q e) j) → PathBefore q e (cond (eqb (kind q e) j) (left q e) (right q e))
-          go (yes! t) = rw t (two_left two_some two_most)
-          go (no! t) = rw t (two_right two_some two_most)
-
-      pub reverses_two : (x y : ℕ) → x ≡ cond (eqb f.kind 1) f.right f.left → y ≡ cond (eqb f.kind 1) f.left f.right → (m n o r : Made)
-          → Wrote (Item.binary f.kind ∷ []) o r → BuildsPath (reversed_at q y) n o → BuildsPath (reversed_at q x) m n → BuildsPath (reversed_at q e) m r
-      reverses_two x y a b m n o r w v u =
-          let w' = subst (λ (k : ℕ). Wrote (Item.binary k ∷ []) o r) same_kind w in
-          let v' = subst (λ (i : ℕ). BuildsPath (reversed_at q i) n o) (b ∙ ap (λ (g : Entry). cond (eqb g.kind 1) g.left g.right) at) v in
-          let u' = subst (λ (i : ℕ). BuildsPath (reversed_at q i) m n) (a ∙ ap (λ (g : Entry). cond (eqb g.kind 1) g.right g.left) at) u in
-          subst (λ (t : Term). Builds t m r) (sym (turned_two two_some two_most)) (builds_binary (kind q e) (turned first) (turned second) m n o r w' v' u')
+      pub reverses_two : (m n o r : Made) → Wrote (Item.binary (kind_number k) ∷ []) o r → BuildsPath (reversed_at q f.right) n o → BuildsPath (reversed_at q f.left) m n → BuildsPath (reversed_at q e) m r
+      reverses_two m n o r w =
+          let b = between in
+          numbers (λ (g : Entry). BuildsPath (reversed_at q g.right) n o → BuildsPath (reversed_at q g.left) m n → BuildsPath (reversed_at q e) m r)
+          (λ v u. subst (λ (t : Term). Builds t m r) (sym (turned_two (omega (arith, is, same_kind)) (omega (arith, is, same_kind))))
+          (builds_binary (kind q e) (turned (left q e)) (turned (right q e)) m n o r (read_as (kind_number k) is (λ (j : ℕ). Wrote (Item.binary j ∷ []) o r) w) v u))
 
 -- the table of a path, from nothing on
-module _ (b : Draft) (t o : List ℕ) (empty : b ≡ blank) (room : length t ≡ 256) (places : length o ≡ 64) where
-  pub empty_sound : Sound (made b t o)
-  empty_sound = subst (λ (b : Draft). Sound (made b t o)) (sym empty) (blank_sound t o room places)
+module _ (p : Path) (m n : Made) (s : Sound m) (empty : m.draft ≡ blank) (w : BuildsPath p m n) where
+  abbrev term : Term
+  term = path_term p
 
-  module _ (p : Path) (d : Draft) (t' o' : List ℕ) (w : BuildsPath p (made b t o) (made d t' o')) where
-    abbrev term : Term
-    term = path_term p
+  whole : n ≡ append_all (postfix term) (made blank m.table m.operands)
+  whole = w.whole ∙ ap (λ (b : Draft). append_all (postfix term) (made b m.table m.operands)) empty
 
-    whole : made d t' o' ≡ append_all (postfix term) (made blank t o)
-    whole = w.whole ∙ ap (λ (b : Draft). append_all (postfix term) (made b t o)) empty
-
-    pub makes : Makes p d.entries t'
-    makes =
-        record {
-          counted = ap (λ (m : Made). m.draft.entries) whole ∙ entries_counted t o room places term;
-          front = λ h. ap (λ (m : Made). take (4 * size term) m.table) whole ∙ (built t o room places term h).2;
-        }
+  pub makes : Makes p n.draft.entries n.table
+  makes =
+      record {
+        counted = ap (λ (m : Made). m.draft.entries) whole ∙ entries_counted m.table m.operands s.room s.places term;
+        front = λ h. ap (λ (m : Made). take (4 * size term) m.table) whole ∙ (built m.table m.operands s.room s.places term h).2;
+      }

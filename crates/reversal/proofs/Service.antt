@@ -1,22 +1,22 @@
 -- Laws for the service: what the checks secure, the verdict, and what a refused call and an accepted one leave.
 use Prim.Native.Nat.{ℕ, ◌*◌, ◌<◌}
-use mathlib.Core.Path.{◌≡◌, sym, ap, ◌∙◌}
+use mathlib.Core.Path.{◌≡◌, refl, sym, ap, ◌∙◌}
 use mathlib.Core.Bool.{true, false, not, ◌&&◌}
 use mathlib.Core.List.{List, ◌++◌}
 use lib.ListN.{length, take, drop}
 use lib.Dec.{eqb}
 use borrow.Author.Tests.{eqb-true, not-false}
 use Rattle.model.specs.declared.Reply.{Reply}
-use Rattle.model.specs.declared.MadeReply.{MadeReply}
+use Rattle.model.specs.declared.refusal.Refusal.{Refusal}
 use Rattle.model.specs.QueryTable.{entries_of, kind, right, tag, entry}
 use Rattle.model.specs.Kinds.{names_variable, has_right}
 use Rattle.model.specs.Encoding.{path_term}
-use Rattle.model.specs.Refusals.{making, verdict}
+use Rattle.model.specs.Refusals.{reply, making, verdict, refused}
 use Rattle.model.specs.Checks.{bad_variable, bad_unnamed, query_checks}
 use Rattle.model.specs.Services.{Leaves}
 use Rattle.model.proofs.Booleans.{Seen, yes!, no!, seen, no_yes, no_or, guarded}
 use Rattle.model.proofs.Encoding.{length_encode}
-use Rattle.model.proofs.Refusals.{Passes, accepted, stop_all, pass_all, leaves_none, leaves_table}
+use Rattle.model.proofs.Refusals.{Passes, accepted, leaves_none, leaves_table, refused_some, stop_err, pass_ok}
 use Rattle.model.proofs.Accepted.{fields_at, axis_at, query_shaped, query_numbered}
 use Rattle.entries.specs.Size.{size_checks}
 use Rattle.entries.proofs.Size.{same_size, size_passes, counted_few}
@@ -40,34 +40,37 @@ module _ (q : List ℕ) (least columns : ℕ) (checked : Passes (query_checks q 
   pub reversible : Reversible q
   reversible = record { formed = (query_shaped q least columns checked).formed; axis = axis_at q least columns checked; untagged = untagged_at }
 
--- a call, by the verdict v on its query
-module _ (q : List ℕ) (columns : ℕ) (out : List ℕ) (v : Reply) (checked : v ≡ verdict (query_checks q 0 columns)) where
-  pub query_refused : (r : MadeReply) → r ≡ making v 0 → (v.number ≡ 0 → ⊥) → Leaves (reversal q columns out) r out
+-- a call: its query is refused, or let through
+module _ (q : List ℕ) (columns : ℕ) (out : List ℕ) where
+  pub query_refused : (e : Refusal) → refused e ≡ verdict (query_checks q 0 columns) → Leaves (reversal q columns out) (making (refused e) 0) out
   unfolding reversal reverse_checks
-  query_refused r p z =
-      leaves_none r v (reverse_verdict q columns out) (stop_all (query_checks q 0 columns) (size_checks (reversed_size q) (length out)) v checked z) (reversed_table q) out p z
+  query_refused e p =
+      leaves_none (making (refused e) 0) (refused e) (reverse_verdict q columns out)
+      (stop_err (query_checks q 0 columns) (size_checks (reversed_size q) (length out)) e p) (reversed_table q) out refl (refused_some e)
 
-  module _ (fine : v.number ≡ 0) where
+  module _ (checked : reply 0 0 ≡ verdict (query_checks q 0 columns)) where
     pub checks_passed : Passes (query_checks q 0 columns)
-    checks_passed = accepted (query_checks q 0 columns) (query_numbered q 0 columns) (sym (ap (λ (r : Reply). r.number) checked) ∙ fine)
+    checks_passed = accepted (query_checks q 0 columns) (query_numbered q 0 columns) (sym (ap (λ (r : Reply). r.number) checked))
 
-    -- and by the verdict u on the table that was made of it
-    module _ (entries : ℕ) (table : List ℕ) (w : Makes (reversed_query q) entries table) (u : Reply) (weighed : u ≡ verdict (size_checks entries (length out))) (r : MadeReply) where
-      same_verdict : u ≡ reverse_verdict q columns out
+    -- and so is the table that was made of it
+    module _ (entries : ℕ) (table : List ℕ) (w : Makes (reversed_query q) entries table) where
+      same_verdict : (u : Reply) → u ≡ verdict (size_checks entries (length out)) → u ≡ reverse_verdict q columns out
       unfolding reverse_checks
-      same_verdict =
-          pass_all (query_checks q 0 columns) (size_checks (reversed_size q) (length out)) v u
-          (weighed ∙ ap (λ (i : ℕ). verdict (size_checks i (length out))) w.counted ∙ same_size (reversed_size q) (length out)) checked fine (query_numbered q 0 columns)
+      same_verdict u weighed =
+          pass_ok (query_checks q 0 columns) (size_checks (reversed_size q) (length out)) u
+          (weighed ∙ ap (λ (i : ℕ). verdict (size_checks i (length out))) w.counted ∙ same_size (reversed_size q) (length out)) checked (query_numbered q 0 columns)
 
-      pub made_refused : r ≡ making u 0 → (u.number ≡ 0 → ⊥) → Leaves (reversal q columns out) r out
+      pub made_refused : (e : Refusal) → refused e ≡ verdict (size_checks entries (length out)) → Leaves (reversal q columns out) (making (refused e) 0) out
       unfolding reversal
-      made_refused p z = leaves_none r u (reverse_verdict q columns out) same_verdict (reversed_table q) out p z
+      made_refused e p =
+          leaves_none (making (refused e) 0) (refused e) (reverse_verdict q columns out) (same_verdict (refused e) p) (reversed_table q) out refl (refused_some e)
 
-      pub made_accepted : (after : List ℕ) → r ≡ making u (4 * entries) → after ≡ take (4 * entries) table ++ drop (4 * entries) out → u.number ≡ 0 → Leaves (reversal q columns out) r after
+      pub made_accepted : (after : List ℕ) → reply 0 0 ≡ verdict (size_checks entries (length out)) → after ≡ take (4 * entries) table ++ drop (4 * entries) out
+          → Leaves (reversal q columns out) (making (reply 0 0) (4 * entries)) after
       unfolding reversal
-      made_accepted after p a z =
-          let l = (size_passes entries (length out) u weighed z).0 in
+      made_accepted after p a =
+          let l = (size_passes entries (length out) (reply 0 0) p refl).0 in
           let (few, f) = counted_few (reversed_size q) entries w.counted l in
-          leaves_table r u (reverse_verdict q columns out) same_verdict (reversed_table q) out (4 * entries) after p
+          leaves_table (making (reply 0 0) (4 * entries)) (reply 0 0) (reverse_verdict q columns out) (same_verdict (reply 0 0) p) (reversed_table q) out (4 * entries) after refl
           (a ∙ ap (λ (l : List ℕ). l ++ drop (4 * entries) out) (ap (λ (i : ℕ). take (4 * i) table) f ∙ w.front few))
-          z (length_encode (path_term (reversed_query q)) 0 ∙ ap (λ (i : ℕ). 4 * i) (sym f))
+          refl (length_encode (path_term (reversed_query q)) 0 ∙ ap (λ (i : ℕ). 4 * i) (sym f))

@@ -3,8 +3,7 @@ use Rattle.std.specs.Prelude.{ℕ, zero, suc, ◌+◌, ◌-◌, ◌*◌, ◌%◌
 use Rattle.grammar.specs.Grammar.{ascii, axes, axis_word, variables, word}
 use Rattle.grammar.specs.Grammar.Slash.{one}
 use Rattle.grammar.specs.Grammar.Op.{or, and, same, union, intersect, except, slash}
-use Rattle.words.specs.declared.Scan.{Scan}
-use Rattle.words.specs.declared.Scan.TheVariants.{Word, Stop}
+use Rattle.std.specs.Prelude.{Result, Ok, Err}
 
 -- how many bytes a word and a text begin with alike
 unfoldable pub common : List ℕ → List ℕ → ℕ
@@ -22,10 +21,10 @@ greater a b = cond (ltb a b) b a
 
 -- the first of n words from word k on that may come and stands at the front of the text; or the most bytes that one of them,
 -- or `best`, begins alike
-unfoldable pub scan_from : List ℕ → List Bool → List ℕ → ℕ → ℕ → ℕ → Scan
-scan_from words may text k zero best = Stop best
+unfoldable pub scan_from : List ℕ → List Bool → List ℕ → ℕ → ℕ → ℕ → Result ℕ ℕ
+scan_from words may text k zero best = Err best
 scan_from words may text k (suc n) best =
-    cond (get_or may k false && eqb (common (slot words k) text) (length (slot words k))) (Word k)
+    cond (get_or may k false && eqb (common (slot words k) text) (length (slot words k))) (Ok k)
     (scan_from words may text (suc k) n (cond (get_or may k false) (greater best (common (slot words k) text)) best))
 
 -- the words by their numbers: 0 to 19 where an expression is wanted, 20 to 35 behind one

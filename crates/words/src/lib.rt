@@ -4,15 +4,6 @@
 ghost use Rattle.std.specs.Prelude.{◌≡◌, cond, ◌+◌, ◌-◌, ◌*◌, ◌≤◌, ◌<◌, length, take, drop};
 ghost use Rattle.words.specs.Words.{common, slot, greater, scan_from, word_table};
 
-// What stands at a place (specs/Words.antt: scan_from).
-#[derive(Drop)]
-pub enum Scan {
-    // A word, by its number.
-    Word(usize),
-    // None: so many bytes at most that one begins with.
-    Stop(usize),
-}
-
 // A text beside a place in it. The functions over it are thin: they take it apart, or make it, and call one on slice and number.
 #[derive(Drop)]
 pub struct Reader<'a> {
@@ -60,68 +51,50 @@ const WORDS: [u8; 756] = *b"\
     \x01*\0\0\0\0\0\0\0\0\0\0\0\0\0\0\0\0\0\0\0\
 ";
 
-// A byte as a number.
-pub fn wide(x: u8) -> usize
-    ensures { (result ≡ x) × (result < 256) }
-{
-    x as usize
-}
-
-// The larger of two.
-fn larger(a: usize, b: usize) -> usize
-    ensures { result ≡ greater a b }
-{
-    if a < b { b } else { a }
-}
-
 // The larger of two, where the second counts.
 fn raised(counts: bool, a: usize, b: usize) -> usize
     ensures { result ≡ cond counts (greater a b) a }
 {
-    if counts {
-        return larger(a, b);
-    }
-    a
+    if counts { a.max(b) } else { a }
 }
 
-// How many bytes the word of `len` bytes at `from` and the text at `at` begin with alike.
-fn alike(words: &[u8], from: usize, len: usize, text: &[u8], at: usize) -> usize
-    requires { (from + len ≤ length words.now) × (at ≤ length text.now) }
-    ensures { result ≡ common (take len (drop from words.now)) (drop at text.now) }
+// How many bytes a word and a text begin with alike.
+fn alike(word: &[u8], text: &[u8]) -> usize
+    ensures { result ≡ common word.now text.now }
 {
-    let left = text.len() - at;
-    let mut i = 0;
-    while i < len {
-        if i == left {
+    let most = word.len().min(text.len());
+    for i in 0..most {
+        if word[i] != text[i] {
             return i;
         }
-        if words[from + i] != text[at + i] {
-            return i;
-        }
-        i = i + 1;
     }
-    len
+    most
 }
 
-// The first of the words from lo to hi that may come and stands at `at`, or how far one of them goes.
-fn seek(words: &[u8], may: [bool; 36], lo: usize, hi: usize, text: &[u8], at: usize) -> Scan
+// The first of the words from lo to hi that may come and stands at `at`; or how many bytes at most one of them begins with.
+fn seek(
+    words: &[u8],
+    may: [bool; 36],
+    lo: usize,
+    hi: usize,
+    text: &[u8],
+    at: usize,
+) -> Result<usize, usize>
     requires { (756 ≤ length words.now) × (lo ≤ hi) × (hi ≤ 36) × (at ≤ length text.now) }
     ensures { result ≡ scan_from words.now may (drop at text.now) lo (hi - lo) 0 }
 {
-    let mut k = lo;
     let mut best = 0;
-    while k < hi {
+    for k in lo..hi {
         let from = 21 * k;
-        let len = wide(words[from]) % 21;
-        let n = alike(words, from + 1, len, text, at);
+        let len = usize::from(words[from]) % 21;
+        let n = alike(&words[from + 1..from + 1 + len], &text[at..]);
         let live = may[k];
         if live & (n == len) {
-            return Scan::Word(k);
+            return Ok(k);
         }
         best = raised(live, best, n);
-        k = k + 1;
     }
-    Scan::Stop(best)
+    Err(best)
 }
 
 // The length of word k.
@@ -129,11 +102,11 @@ pub fn word_len(k: usize) -> usize
     requires { k < 36 }
     ensures { result ≡ length (slot word_table k) }
 {
-    wide(WORDS[21 * k]) % 21
+    usize::from(WORDS[21 * k]) % 21
 }
 
 // The same in the grammar's own words. One look at each word.
-fn find_word(text: &[u8], at: usize, may: [bool; 36], lo: usize, hi: usize) -> Scan
+fn find_word(text: &[u8], at: usize, may: [bool; 36], lo: usize, hi: usize) -> Result<usize, usize>
     requires { (lo ≤ hi) × (hi ≤ 36) × (at ≤ length text.now) }
     ensures { result ≡ scan_from word_table may (drop at text.now) lo (hi - lo) 0 }
 {
@@ -148,7 +121,7 @@ pub fn reader_at<'a>(text: &'a [u8], at: usize) -> Reader<'a>
 }
 
 // The first of the words lo to hi that may come and stands at the reader's place, or how far one of them goes.
-pub fn word<'a>(r: Reader<'a>, may: [bool; 36], lo: usize, hi: usize) -> Scan
+pub fn word<'a>(r: Reader<'a>, may: [bool; 36], lo: usize, hi: usize) -> Result<usize, usize>
     requires { (lo ≤ hi) × (hi ≤ 36) × (r.at ≤ length r.text.now) }
     ensures { result ≡ scan_from word_table may (drop r.entry.at r.entry.text.now) lo (hi - lo) 0 }
 {
@@ -156,7 +129,13 @@ pub fn word<'a>(r: Reader<'a>, may: [bool; 36], lo: usize, hi: usize) -> Scan
 }
 
 // The same with plain parameters: the form that other crates call.
-pub fn word_at(text: &[u8], at: usize, may: [bool; 36], lo: usize, hi: usize) -> Scan
+pub fn word_at(
+    text: &[u8],
+    at: usize,
+    may: [bool; 36],
+    lo: usize,
+    hi: usize,
+) -> Result<usize, usize>
     requires { (lo ≤ hi) × (hi ≤ 36) × (at ≤ length text.now) }
     ensures { result ≡ scan_from word_table may (drop at text.now) lo (hi - lo) 0 }
 {

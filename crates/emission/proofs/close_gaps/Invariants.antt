@@ -1,11 +1,9 @@
-use Rattle.entries.specs.Postfix.{made}
+-- The loop keeps what the gaps that it has closed come to.
+use lib.ListN.{length}
+use Rattle.entries.specs.Builder.{made_of}
 use Rattle.emission.proofs.Writing.{Closing}
 use Rattle.emission.proofs.close_gaps.Given as goal
 
-abbrev pub invariant-loop-left : goal.invariant-loop-left
-invariant-loop-left l =
-    Closing l.stack l.depth l.n l.path (made l.initial.draft l.initial.table l.initial.operands) l.left l.is_path (made l.draft l.table l.operands)
-
-abbrev pub decreases-loop-left : goal.decreases-loop-left
-decreases-loop-left l =
-    l.left
+abbrev pub invariant-loop-i : goal.invariant-loop-i
+invariant-loop-i l =
+    Closing l.gaps (length l.gaps) l.n l.initial.path (made_of l.initial.b) l.i l.path (made_of l.b)

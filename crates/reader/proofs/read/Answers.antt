@@ -1,15 +1,15 @@
-use Rattle.reader.proofs.Verdicts.{names_refused, length_refused, length_passed, short}
-use borrow.Author.Rules.{rules}
+use Rattle.std.proofs.lemmas.Result.{err_from_is_err_and}
+use mathlib.Core.Path.{sym}
+use Rattle.reader.proofs.Verdicts.{names_refused, length_refused, length_passed}
 use Rattle.reader.proofs.read.Goals as goal
 
-pub returns-then-v-ne0 : goal.returns-then-v-ne0
-returns-then-v-ne0 c = names_refused _ _ _ _ _ _ (search rules) (search rules) c.refused.ensures
+pub returns-in_err-check_tables : goal.returns-in_err-check_tables
+returns-in_err-check_tables c =
+    let p = err_from_is_err_and c.from_residual.result c.from_residual.ensures.1 in
+    rw (p.1, p.2) (names_refused _ _ _ _ _ c.in_err-check_tables.ensures)
 
-pub returns-then-wrong : goal.returns-then-wrong
-returns-then-wrong c = length_refused _ _ _ _ c.check_tables-v.result (search rules) (search rules) c.is_bad_length-wrong.result _ _ (search rules) (search rules) (search rules) c.refused-then-wrong.ensures
-
-pub read_table-requires : goal.read_table-requires
-read_table-requires c = search (short, rules)
+pub returns-then-is_bad_length : goal.returns-then-is_bad_length
+returns-then-is_bad_length c = length_refused _ _ _ _ c.in_ok-check_tables.ensures (sym c.if-is_bad_length.ensures)
 
 pub returns : goal.returns
-returns c = length_passed _ _ _ c.args.query.now c.check_tables-v.result (search rules) (search rules) c.is_bad_length-wrong.result _ _ (search rules) (search rules) c.read_table.ensures
+returns c = length_passed _ _ _ _ c.in_ok-check_tables.ensures (sym c.if-is_bad_length.ensures) _ _ c.read_table.ensures

@@ -1,5 +1,5 @@
 -- The loop keeps that the search from word k on finds what the whole search finds.
-use Prim.Native.Nat.{◌-◌, ◌≤◌}
+use Prim.Native.Nat.{◌-◌}
 use mathlib.Core.Path.{◌≡◌}
 use lib.ListN.{drop}
 use Rattle.words.specs.Words.{scan_from}
@@ -7,7 +7,4 @@ use Rattle.words.proofs.seek.Given as goal
 
 abbrev pub invariant-loop-k : goal.invariant-loop-k
 invariant-loop-k l =
-    (l.lo ≤ l.k) × (l.k ≤ l.hi) × (scan_from l.words l.may (drop l.at l.text) l.k (l.hi - l.k) l.best ≡ scan_from l.words l.may (drop l.at l.text) l.lo (l.hi - l.lo) 0)
-
-abbrev pub decreases-loop-k : goal.decreases-loop-k
-decreases-loop-k l = l.hi - l.k
+    scan_from l.words l.may (drop l.at l.text) l.k (l.hi - l.k) l.best ≡ scan_from l.words l.may (drop l.at l.text) l.lo (l.hi - l.lo) 0

@@ -5,4 +5,4 @@ use Rattle.words.proofs.word_len.Goals as goal
 
 pub returns : goal.returns
 unfolding word_table
-returns c = table_length _ _ (search rules) c.wide.ensures.0
+returns c = table_length _ _ (search rules) c.from.ensures

@@ -1,4 +1,0 @@
-use Rattle.machine.proofs.letter_turn.Goals as goal
-
-pub returns : goal.returns
-returns c = rw c.letter_focus.ensures
