@@ -3,7 +3,7 @@
 use super::{call, pages, searches};
 use harness::line::Line;
 use harness::shared::Shared;
-use harness::table::Table;
+use harness::table::{Table, copy};
 use harness::tally::Tally;
 use model::{ImageReply, Refusal, Reply};
 use reference::damage;
@@ -14,9 +14,7 @@ use reference::tree::Tree;
 fn compare(tally: &mut Tally, shared: &Shared, room: usize, due: ImageReply, numbers: &[u16]) {
     let mut to = [pages::PATTERN; 1024];
     let mut rows = [pages::PATTERN; 1024];
-    for (place, x) in rows.iter_mut().zip(numbers) {
-        *place = *x;
-    }
+    copy(numbers, &mut rows);
     let end = room.min(1024);
     let got = view::seen(shared.numbers(), shared.party(), &mut to[..end]);
     tally.expect_counted(ImageReply::from(got), due);

@@ -2,7 +2,7 @@
 // compared with what is due.
 use harness::line::Line;
 use harness::shared::Shared;
-use harness::table::{Rows, front};
+use harness::table::{Rows, copy, front};
 use harness::tally::{ACCEPTED, Tally};
 use model::{ImageReply, Refusal, Reply};
 use reference::damage;
@@ -30,9 +30,7 @@ fn serve(c: Call, to: &mut Rows) -> Result<usize, Refusal> {
 fn compare(tally: &mut Tally, c: Call, due: ImageReply, numbers: &[u16]) {
     let mut to = [PATTERN; 1024];
     let mut rows = [PATTERN; 1024];
-    for (place, x) in rows.iter_mut().zip(numbers) {
-        *place = *x;
-    }
+    copy(numbers, &mut rows);
     let got = serve(c, &mut to);
     tally.expect_counted(ImageReply::from(got), due);
     tally.expect_rows(&to, &rows);
