@@ -87,11 +87,8 @@ fn lowest_from(search: &Search, row: [u16; 3], i: usize, from: usize, spent: usi
     let table = opening::open(search.query, filled);
     let end = 4 * (search.query.len() / 4 + 2);
     let opened = Search {
-        tree: search.tree,
-        prev: search.prev,
         query: &table[..end],
-        whole: search.whole,
-        k: search.k,
+        ..*search
     };
     lowest_passing(&opened, row, i, from, spent)
 }
