@@ -1,6 +1,5 @@
 // Tag names: the check of a name request, the name as a part of the table that holds it, and the tag of a name.
-// Each call reads a table's length bytes at most twice, so the time is linear in the tables' lengths. The loops over a table go from one
-// length byte to the next, so they are a `while`.
+// Each call reads a table's length bytes at most twice, so the time is linear in the tables' lengths.
 #![tactic(auto)]
 
 ghost use Rattle.std.specs.Prelude.{◌≡◌, ◌≤◌, length, take, drop};
@@ -34,6 +33,7 @@ fn is_malformed(table: &[u8]) -> bool
     ensures { result ≡ malformed table.now }
 {
     let mut at = 0;
+    // A `while`, here and below: each turn goes on by a length byte and its name. An iterator over the names would be longer than the loops.
     while at < table.len() {
         let len = usize::from(table[at]);
         if (len == 0) | (32 < len) {
