@@ -29,17 +29,13 @@ fn print<W: Write>(clock: &impl Clock, to: &mut W, file: &[u8]) -> u8
     let mut at = output::start();
     loop {
         let piece = output::next_piece(file, at, &mut out);
-        let count = piece.count;
-        let written = streams::write_whole(clock, to, &out[..count]);
-        if !written {
+        if !streams::write_whole(clock, to, &out[..piece.count]) {
             return b'2';
         }
-        let reply = piece.reply;
         if piece.last {
-            return status(reply);
+            return status(piece.reply);
         }
-        let next = piece.next;
-        at = next;
+        at = piece.next;
     }
 }
 

@@ -1,5 +1,6 @@
 // Everything that a terminal calls, under C names: include/geznauri.h describes it. Each function is a thin form of one
-// service, and its contract is that service's; gz_name is the name and the reply of one request in one.
+// service, and its contract is that service's; gz_name is the name and the reply of one request in one. What a service comes to is made
+// the reply that C is told here, and nowhere below.
 #![tactic(auto)]
 
 ghost use Rattle.std.specs.Prelude.{◌≡◌, true, false};
@@ -14,28 +15,34 @@ ghost use Rattle.names.specs.Names.{name_checks, part_for, IsPart};
 ghost use Rattle.reader.specs.Read.{ReadLeaves};
 ghost use Rattle.reversal.specs.Service.{reversal};
 
+use index::IndexReply;
+use model::{Cursor, ImageReply, MadeReply, PageReply, QuickReply, ReadReply, Reply};
+
 // The check of a shared tree table.
 #[unsafe(no_mangle)]
-pub extern "C" fn gz_check_tree(tree: &[u16]) -> model::Reply
+pub extern "C" fn gz_check_tree(tree: &[u16]) -> Reply
     ensures { result ≡ verdict (shared_checks tree.now) }
 {
-    ownership::check_table(tree)
+    let outcome = ownership::check_table(tree);
+    Reply::from(outcome)
 }
 
 // The tree that a party sees of a shared table, at the front of the buffer.
 #[unsafe(no_mangle)]
-pub extern "C" fn gz_seen(tree: &[u16], party: u16, table: &mut [u16]) -> model::MadeReply
+pub extern "C" fn gz_seen(tree: &[u16], party: u16, table: &mut [u16]) -> MadeReply
     ensures { Leaves (seen_tree tree.now party table.old) result table.new }
 {
-    view::seen(tree, party, table)
+    let outcome = view::seen(tree, party, table);
+    MadeReply::from(outcome)
 }
 
 // The check of a query table with its number of variables.
 #[unsafe(no_mangle)]
-pub extern "C" fn gz_check_query(query: &[u16], columns: u16) -> model::Reply
+pub extern "C" fn gz_check_query(query: &[u16], columns: u16) -> Reply
     ensures { result ≡ verdict (query_checks query.now 0 columns) }
 {
-    query::check_query(query, model::wide(columns))
+    let outcome = query::check_query(query, usize::from(columns));
+    Reply::from(outcome)
 }
 
 // The nodes that a set reaches by a query, and how many they are.
@@ -48,12 +55,13 @@ pub extern "C" fn gz_forwards(
     nodes: &[u16],
     from: &[u8],
     to: &mut [u8],
-) -> model::ImageReply
+) -> ImageReply
     ensures { Leaves
         (seen_image tree.now party query.now columns nodes.now false from.now to.old)
         result to.new }
 {
-    parties::forwards(tree, party, query, model::wide(columns), nodes, from, to)
+    let outcome = parties::forwards(tree, party, query, usize::from(columns), nodes, from, to);
+    ImageReply::from(outcome)
 }
 
 // The nodes that reach a set by a query, and how many they are.
@@ -66,12 +74,13 @@ pub extern "C" fn gz_backwards(
     nodes: &[u16],
     from: &[u8],
     to: &mut [u8],
-) -> model::ImageReply
+) -> ImageReply
     ensures { Leaves
         (seen_image tree.now party query.now columns nodes.now true from.now to.old)
         result to.new }
 {
-    parties::backwards(tree, party, query, model::wide(columns), nodes, from, to)
+    let outcome = parties::backwards(tree, party, query, usize::from(columns), nodes, from, to);
+    ImageReply::from(outcome)
 }
 
 // All pairs of a query.
@@ -83,12 +92,13 @@ pub extern "C" fn gz_pairs(
     columns: u16,
     nodes: &[u16],
     table: &mut [u8],
-) -> model::Reply
+) -> Reply
     ensures { Leaves
         (seen_pairs tree.now party query.now columns nodes.now table.old)
         result table.new }
 {
-    parties::pairs(tree, party, query, model::wide(columns), nodes, table)
+    let outcome = parties::pairs(tree, party, query, usize::from(columns), nodes, table);
+    Reply::from(outcome)
 }
 
 // All pairs of a query, a bit a pair.
@@ -100,47 +110,55 @@ pub extern "C" fn gz_pairs_bits(
     columns: u16,
     nodes: &[u16],
     words: &mut [u64],
-) -> model::Reply
+) -> Reply
     ensures { Leaves
         (seen_bits tree.now party query.now columns nodes.now words.old)
         result words.new }
 {
-    parties::pairs_bits(tree, party, query, model::wide(columns), nodes, words)
+    let outcome = parties::pairs_bits(tree, party, query, usize::from(columns), nodes, words);
+    Reply::from(outcome)
 }
 
 // A relation among n nodes, from bytes to bits.
 #[unsafe(no_mangle)]
-pub extern "C" fn gz_pack(n: u16, table: &[u8], words: &mut [u64]) -> model::Reply
+pub extern "C" fn gz_pack(n: u16, table: &[u8], words: &mut [u64]) -> Reply
     ensures { PackLeaves n table.now words.old result words.new }
 {
-    packing::pack(model::wide(n), table, words)
+    let outcome = packing::pack(usize::from(n), table, words);
+    Reply::from(outcome)
 }
 
 // A relation among n nodes, from bits to bytes.
 #[unsafe(no_mangle)]
-pub extern "C" fn gz_unpack(n: u16, words: &[u64], table: &mut [u8]) -> model::Reply
+pub extern "C" fn gz_unpack(n: u16, words: &[u64], table: &mut [u8]) -> Reply
     ensures { UnpackLeaves n words.now table.old result table.new }
 {
-    packing::unpack(model::wide(n), words, table)
+    let outcome = packing::unpack(usize::from(n), words, table);
+    Reply::from(outcome)
 }
 
-// The page of answers after the cursor that is lent, which moves on to the last row written. The cursor is taken apart here, and the page
-// found by value.
+// The page of answers after the cursor that is lent, which moves on to the last row written; a refused call leaves it. The page is found by
+// value.
 #[unsafe(no_mangle)]
 pub extern "C" fn gz_page(
     tree: &[u16],
     party: u16,
     query: &[u16],
     columns: u16,
-    cursor: &mut model::Cursor,
+    cursor: &mut Cursor,
     rows: &mut [u16],
-) -> model::PageReply
+) -> PageReply
     ensures { PageLeaves (seen_page tree.now party query.now columns cursor.old rows.old)
         result cursor.new rows.new }
 {
-    let p = parties::page_from(tree, party, query, columns as usize, *cursor, rows);
-    *cursor = p.cursor;
-    p.reply
+    let outcome = parties::page_from(tree, party, query, usize::from(columns), *cursor, rows);
+    match outcome {
+        Ok(page) => {
+            *cursor = page.cursor;
+            PageReply::from(outcome)
+        }
+        Err(_) => PageReply::from(outcome),
+    }
 }
 
 // The same page, found variable by variable; 29 where the query breaks the rule that this takes.
@@ -150,15 +168,20 @@ pub extern "C" fn gz_quick_page(
     party: u16,
     query: &[u16],
     columns: u16,
-    cursor: &mut model::Cursor,
+    cursor: &mut Cursor,
     rows: &mut [u16],
-) -> model::QuickReply
+) -> QuickReply
     ensures { SeenQuickLeaves tree.now party query.now columns cursor.old rows.old
         result cursor.new rows.new }
 {
-    let p = parties::quick_page_from(tree, party, query, columns as usize, *cursor, rows);
-    *cursor = p.cursor;
-    p.reply
+    let outcome = parties::quick_page_from(tree, party, query, usize::from(columns), *cursor, rows);
+    match outcome {
+        Ok(quick) => {
+            *cursor = quick.page.cursor;
+            QuickReply::from(outcome)
+        }
+        Err(_) => QuickReply::from(outcome),
+    }
 }
 
 // The index of the tree that a party sees, and the list of its tags.
@@ -168,11 +191,12 @@ pub extern "C" fn gz_index(
     party: u16,
     next: &mut [u16],
     tags: &mut [u16],
-) -> index::IndexReply
+) -> IndexReply
     ensures { BothLeave (seen_index tree.now party next.old tags.old)
         result next.new tags.new }
 {
-    parties::build_index(tree, party, next, tags)
+    let outcome = parties::build_index(tree, party, next, tags);
+    IndexReply::from(outcome)
 }
 
 // The descendants of a node that have a tag, by an index that is lent, and how many they are.
@@ -184,11 +208,12 @@ pub extern "C" fn gz_descendants(
     start: u16,
     tag: u16,
     to: &mut [u8],
-) -> model::ImageReply
+) -> ImageReply
     ensures { Leaves (seen_lookup tree.now party next.now start tag to.old)
         result to.new }
 {
-    parties::descendants(tree, party, next, start, tag, to)
+    let outcome = parties::descendants(tree, party, next, start, tag, to);
+    ImageReply::from(outcome)
 }
 
 // The name of a tag, as a part of the table that holds it.
@@ -198,32 +223,30 @@ pub extern "C" fn gz_name<'a>(
     site: &'a [u8],
     tag: u16,
     name: &mut &'a [u8],
-) -> model::Reply
+) -> Reply
     ensures { (result ≡ verdict (name_checks house.now site.now tag))
         × IsPart house.entry site.entry name.new (part_for house.now site.now tag) }
 {
     *name = names::name(house, site, tag);
-    names::check_name(house, site, tag)
+    let outcome = names::check_name(house, site, tag);
+    Reply::from(outcome)
 }
 
 // A typed query, read into a query table at the front of the buffer.
 #[unsafe(no_mangle)]
-pub extern "C" fn gz_read(
-    text: &[u8],
-    house: &[u8],
-    site: &[u8],
-    query: &mut [u16],
-) -> model::ReadReply
+pub extern "C" fn gz_read(text: &[u8], house: &[u8], site: &[u8], query: &mut [u16]) -> ReadReply
     ensures { ReadLeaves text.now house.now site.now query.old
         result query.new }
 {
-    reader::read(text, house, site, query)
+    let outcome = reader::read(text, house, site, query);
+    ReadReply::from(outcome)
 }
 
 // The query turned round, as a query table at the front of the buffer.
 #[unsafe(no_mangle)]
-pub extern "C" fn gz_reverse(query: &[u16], columns: u16, out: &mut [u16]) -> model::MadeReply
+pub extern "C" fn gz_reverse(query: &[u16], columns: u16, out: &mut [u16]) -> MadeReply
     ensures { Leaves (reversal query.now columns out.old) result out.new }
 {
-    reversal::reverse(query, model::wide(columns), out)
+    let outcome = reversal::reverse(query, usize::from(columns), out);
+    MadeReply::from(outcome)
 }
