@@ -1,16 +1,15 @@
 -- Laws of blocks of rows: those that begin with the same numbers. Behind a block in which no row is an answer, the answers are those after
 -- its first row.
-use Prim.Native.Nat.{ℕ, zero, suc, ◌+◌, ◌-◌, ◌<◌, ◌≤◌, min}
-use native.Mathlib.Decide.{dec_lt}
+use Prim.Native.Nat.{ℕ, zero, suc, ◌<◌, ◌≤◌}
 use native.Mathlib.Omega.{arith}
 use mathlib.Core.Path.{◌≡◌, refl, sym, ap, ap₂, ◌∙◌, subst}
 use mathlib.Core.Logic.{◌⊎◌}
-use mathlib.Core.Bool.{Bool, true, false, not}
+use mathlib.Core.Bool.{Bool, true, false}
 use mathlib.Core.List.{List, [], ◌∷◌}
 use lib.Dec.{eqb}
 use lib.ListN.{length, take, get_or}
 use lib.Seq.{take_all, take-take, get_or-take}
-use borrow.Author.Tests.{lt-ltb, eqb-true, not-true}
+use borrow.Author.Tests.{lt-ltb, eqb-true}
 use Rattle.model.specs.Tree.{tree_of, size_of}
 use Rattle.model.specs.QueryTable.{path_at, last_of}
 use Rattle.model.specs.Encoding.{path_term}

@@ -22,9 +22,8 @@ ghost use Rattle.model.specs.Services.{page_outcome, PageLeaves};
 ghost use Rattle.narrowing.specs.Narrowing.{Searches, entry_of, Within};
 ghost use Rattle.answers.specs.Search.{Lists, Prepared, answers_by, page_of};
 
-use narrowing::{Narrowed, Search};
-
 pub use blocks::goes_on;
+use narrowing::{Narrowed, Search};
 
 // How the rows of a page are tried: by what search, of how many variables; what of the query the variables decide (crate `narrowing`), and
 // whether that is evaluated by whole tables; and how many variables must be bound before rows can be left out (crate `pruning`).
@@ -50,14 +49,7 @@ pub fn satisfies(search: &Search, row: [u16; 3]) -> bool
         nodes: &row[..search.k],
     };
     let mut found = 0;
-    engines::image(
-        &call,
-        search.whole,
-        last,
-        false,
-        sets::full(n),
-        &mut found,
-    );
+    engines::image(&call, search.whole, last, false, sets::full(n), &mut found);
     found != 0
 }
 

@@ -1,5 +1,5 @@
 -- What the checks of a quick page call give, and what the call leaves.
-use Prim.Native.Nat.{ℕ, ◌+◌, ◌*◌, ◌≤◌}
+use Prim.Native.Nat.{ℕ}
 use native.Mathlib.Omega.{arith}
 use mathlib.Core.Path.{◌≡◌, refl, sym, ap, ◌∙◌, subst}
 use mathlib.Core.Bool.{Bool, true, false}
@@ -17,7 +17,7 @@ use Rattle.model.specs.Checks.{tree_checks, query_checks, cursor_checks, room_ch
 use Rattle.model.specs.Sharing.{sharing_checks}
 use Rattle.model.specs.Accepted.{Ordered, Below, Shaped}
 use Rattle.model.specs.Answers.{answers}
-use Rattle.model.specs.Pages.{row_of, has_begun, after, paged}
+use Rattle.model.specs.Pages.{row_of, has_begun, after}
 use Rattle.model.specs.Services.{page_outcome, quick_outcome, PageLeaves}
 use Rattle.model.proofs.Refusals.{Passes, Passes-front, numbered, accepted, stop_all, pass_all}
 use Rattle.model.proofs.Accepted.{tree_numbered, query_numbered, query_shaped}

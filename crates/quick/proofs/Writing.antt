@@ -3,16 +3,15 @@ use Prim.Native.Nat.{ℕ, suc, ◌+◌, ◌*◌, ◌/◌, ◌<◌, ◌≤◌}
 use native.Mathlib.Nat.{mul-suc, mul-le-mul_left}
 use native.Mathlib.Omega.{arith}
 use mathlib.Core.Path.{◌≡◌}
-use mathlib.Core.Bool.{Bool, true, false}
+use mathlib.Core.Bool.{true, false}
 use mathlib.Core.List.{List}
 use lib.ListN.{length, length-take}
 use lib.Seq.{paste}
 use Rattle.model.specs.declared.Cursor.{Cursor}
 use Rattle.model.specs.Tree.{size_of}
 use Rattle.model.specs.Answers.{answers}
-use Rattle.model.specs.Pages.{after, at_row, paged}
+use Rattle.model.specs.Pages.{after, at_row}
 use Rattle.model.specs.Accepted.{Below}
-use Rattle.model.specs.Services.{PageLeaves}
 use Rattle.model.proofs.Answers.{answers_wide, answers_member}
 use Rattle.std.specs.Prelude.{Some, None}
 use Rattle.answers.specs.Search.{Spot, row_at}

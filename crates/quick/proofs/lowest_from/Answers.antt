@@ -1,5 +1,5 @@
 use borrow.Author.Tests.{eqb-true}
-use Rattle.answers.proofs.Opened.{opened_length, opened_searchable}
+use Rattle.answers.proofs.Opened.{opened_searchable}
 use Rattle.quick.proofs.Opened.{lowest_opened, lowest_last}
 use Rattle.quick.proofs.lowest_from.Goals as goal
 

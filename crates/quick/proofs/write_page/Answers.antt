@@ -1,5 +1,4 @@
-use native.Mathlib.Omega.{arith}
-use Rattle.answers.proofs.Writing.{going_length, going_fits, going_count}
+use Rattle.answers.proofs.Writing.{going_fits}
 use Rattle.quick.proofs.Writing.{written_start, written_below, written_fits, written_turn, written_full, written_out}
 use Rattle.quick.proofs.write_page.Goals as goal
 
