@@ -2,7 +2,7 @@
 use Prim.Native.Nat.{ℕ, ◌+◌, ◌≤◌, ◌<◌, min, max}
 use native.Mathlib.Omega.{arith}
 use mathlib.Core.Path.{◌≡◌, sym, ap, ◌∙◌}
-use mathlib.Core.Bool.{Bool, true, false, cond, ◌||◌}
+use mathlib.Core.Bool.{true, false}
 use mathlib.Core.List.{List}
 use lib.Dec.{eqb}
 use lib.ListN.{get_or}
@@ -19,16 +19,7 @@ use Rattle.aside.proofs.Terms.{Form, form}
 use Rattle.aside.proofs.Terms.Form.{none!, one!, two! }
 use Rattle.nesting.specs.Nesting.{weight, depth_in, depth_at, deep}
 
--- it is at most two, and none is deeper than two
-
-pub weight_small : (k : ℕ) → weight k ≤ 2
-weight_small k = go (eqb k 14) (eqb k 3 || (eqb k 4 || eqb k 13))
-  where
-    go : (a b : Bool) → cond a 2 (cond b 1 0) ≤ 2
-    go true b = omega arith
-    go false true = omega arith
-    go false false = omega arith
-
+-- none is deeper than two
 pub depth_small : (a : Term) → depth_in a ≤ 2
 unfolding depth_in
 depth_small (Term.leaf k l g) = omega arith
