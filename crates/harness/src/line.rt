@@ -1,5 +1,6 @@
 // A line of the input: decimal numbers, parted by anything else, in parts that `|` ends; `#` starts a comment.
 use super::table;
+use model::{Cursor, ImageReply, Reply};
 
 // How many parts, and how many numbers, a line may have.
 const PARTS: usize = 8;
@@ -128,9 +129,25 @@ impl Line {
         }
     }
 
+    // A part as a reply: NUMBER PLACE COUNT, or NUMBER PLACE.
+    pub fn counted(&self, part: usize) -> ImageReply {
+        ImageReply {
+            number: table::narrow(self.number(part, 0)),
+            place: table::narrow(self.number(part, 1)),
+            count: self.number(part, 2),
+        }
+    }
+
+    pub fn reply(&self, part: usize) -> Reply {
+        Reply {
+            number: table::narrow(self.number(part, 0)),
+            place: table::narrow(self.number(part, 1)),
+        }
+    }
+
     // A part as a cursor: BEGUN FIRST SECOND THIRD.
-    pub fn cursor(&self, part: usize) -> model::Cursor {
-        model::Cursor {
+    pub fn cursor(&self, part: usize) -> Cursor {
+        Cursor {
             begun: table::byte(self.number(part, 0)),
             first: table::narrow(self.number(part, 1)),
             second: table::narrow(self.number(part, 2)),

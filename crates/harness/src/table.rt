@@ -28,6 +28,12 @@ pub fn put<T: Copy>(items: &mut [T], k: usize, value: T) {
     }
 }
 
+// Copies a list to the front of another, as far as either reaches.
+pub fn copy<T: Copy>(from: &[T], to: &mut [T]) {
+    let end = from.len().min(to.len());
+    to[..end].copy_from_slice(&from[..end]);
+}
+
 // The first items of a list, as many as it has.
 pub fn front<T>(items: &[T], length: usize) -> &[T] {
     let end = length.min(items.len());

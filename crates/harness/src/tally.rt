@@ -1,6 +1,7 @@
 // What was compared.
 use super::line::Share;
 use super::{sums, table};
+use model::{Cursor, ImageReply, Reply};
 
 // What is summed up beside the replies.
 #[derive(Clone, Copy)]
@@ -114,6 +115,20 @@ pub fn show_number(number: u64, then: &[u8]) {
     io::write_all(1, then);
 }
 
+// The reply to a call that is accepted.
+pub const ACCEPTED: Reply = Reply {
+    number: 0,
+    place: 0,
+};
+
+// A reply without its count.
+pub fn uncounted(reply: ImageReply) -> Reply {
+    Reply {
+        number: reply.number,
+        place: reply.place,
+    }
+}
+
 fn same_bytes(got: &[u8], due: &[u8], room: usize) -> bool {
     let end = room.wrapping_add(64);
     (end <= got.len()) && (end <= due.len()) && (got[..end] == due[..end])
@@ -163,11 +178,16 @@ impl Tally {
         show_number(self.at(Sum::ComparedHere), b" of this part failed\n");
     }
 
-    // A reply compared with the number and the place that are due.
-    pub fn expect_reply(&mut self, got: model::Reply, number: usize, place: usize) {
-        let got_number = usize::from(got.number);
-        self.replies.add(got_number, 1);
-        self.expect((got_number == number) & (usize::from(got.place) == place));
+    // A reply compared with the one that is due.
+    pub fn expect_reply(&mut self, got: Reply, due: Reply) {
+        self.replies.add(usize::from(got.number), 1);
+        self.expect((got.number == due.number) & (got.place == due.place));
+    }
+
+    // A reply with a count compared with the one that is due.
+    pub fn expect_counted(&mut self, got: ImageReply, due: ImageReply) {
+        self.expect_reply(uncounted(got), uncounted(due));
+        self.expect(got.count == due.count);
     }
 
     // A buffer compared with the bytes that are due, up to 64 bytes beyond the room that was lent.
@@ -185,7 +205,7 @@ impl Tally {
         self.expect(got == due);
     }
 
-    pub fn expect_cursor(&mut self, got: model::Cursor, due: model::Cursor) {
+    pub fn expect_cursor(&mut self, got: Cursor, due: Cursor) {
         let first_two = (got.begun == due.begun) & (got.first == due.first);
         self.expect(first_two & (got.second == due.second) & (got.third == due.third));
     }

@@ -6,7 +6,7 @@ mod refusal;
 mod search;
 
 ghost use Rattle.std.specs.Prelude.{◌≡◌, ◌++◌, ◌≤◌, ◌<◌, length, take, drop};
-ghost use Rattle.model.specs.Refusals.{reply, counting, making};
+ghost use Rattle.model.specs.Refusals.{reply};
 
 pub use kind::{Axis, Kind, axis_of, kind_of};
 pub use refusal::Refusal;
@@ -14,7 +14,7 @@ pub use search::lowest;
 
 // The reply to a call: 0 and 0, or the number and the place of a refusal.
 #[repr(C)]
-#[derive(Clone, Copy)]
+#[derive(Clone, Copy, PartialEq, Eq)]
 pub struct Reply {
     pub number: u16,
     pub place: u16,
@@ -23,7 +23,7 @@ pub struct Reply {
 // The reply to forwards, backwards and descendants: number and place, and how many nodes the result has (document 02: the count);
 // 0 of a refused call.
 #[repr(C)]
-#[derive(Clone, Copy)]
+#[derive(Clone, Copy, PartialEq, Eq)]
 pub struct ImageReply {
     pub number: u16,
     pub place: u16,
@@ -32,7 +32,7 @@ pub struct ImageReply {
 
 // The reply to the making of a table: number and place, and how many numbers the table has; 0 of a refused call.
 #[repr(C)]
-#[derive(Clone, Copy)]
+#[derive(Clone, Copy, PartialEq, Eq)]
 pub struct MadeReply {
     pub number: u16,
     pub place: u16,
@@ -42,7 +42,7 @@ pub struct MadeReply {
 // The reply to a page call: number and place, how many rows it wrote, and whether a later row exists (document 01: count and
 // flag).
 #[repr(C)]
-#[derive(Clone, Copy)]
+#[derive(Clone, Copy, PartialEq, Eq)]
 pub struct PageReply {
     pub number: u16,
     pub place: u16,
@@ -53,7 +53,7 @@ pub struct PageReply {
 // The reply to a quick page call: that of a page call, and how many evaluations of the query it took (document 02, §7); 0 of a
 // refused call.
 #[repr(C)]
-#[derive(Clone, Copy)]
+#[derive(Clone, Copy, PartialEq, Eq)]
 pub struct QuickReply {
     pub number: u16,
     pub place: u16,
@@ -65,7 +65,7 @@ pub struct QuickReply {
 // The reply to the reading of a typed query: number and place, how many numbers its table has, and how many variables
 // (document 02: columns).
 #[repr(C)]
-#[derive(Clone, Copy)]
+#[derive(Clone, Copy, PartialEq, Eq)]
 pub struct ReadReply {
     pub number: u16,
     pub place: u16,
@@ -74,7 +74,7 @@ pub struct ReadReply {
 }
 
 // A page of answers: how many rows it wrote, whether a later row exists, and the cursor after it.
-#[derive(Clone, Copy)]
+#[derive(Clone, Copy, PartialEq, Eq)]
 pub struct Page {
     pub count: usize,
     pub more: bool,
@@ -82,14 +82,14 @@ pub struct Page {
 }
 
 // A quick page: the page, and how many evaluations of the query it took.
-#[derive(Clone, Copy)]
+#[derive(Clone, Copy, PartialEq, Eq)]
 pub struct QuickPage {
     pub page: Page,
     pub evaluations: usize,
 }
 
 // A query that was read: how many numbers its table has, and how many variables.
-#[derive(Clone, Copy)]
+#[derive(Clone, Copy, PartialEq, Eq)]
 pub struct Read {
     pub count: usize,
     pub columns: u16,
@@ -98,7 +98,7 @@ pub struct Read {
 // Where a caller stands in the answers of a query (document 01: the walk): whether paging has begun, 0 if not and any other
 // byte if so, and the last row given, as three node numbers. All zero is a fresh cursor.
 #[repr(C)]
-#[derive(Clone, Copy)]
+#[derive(Clone, Copy, PartialEq, Eq)]
 pub struct Cursor {
     pub begun: u8,
     pub first: u16,
@@ -107,7 +107,7 @@ pub struct Cursor {
 }
 
 // The four numbers of an entry of a query table.
-#[derive(Clone, Copy)]
+#[derive(Clone, Copy, PartialEq, Eq)]
 pub struct Entry {
     pub kind: usize,
     pub left: usize,
@@ -140,28 +140,6 @@ pub fn reply_at(number: u16, place: usize) -> Reply
     Reply {
         number: number,
         place: place as u16,
-    }
-}
-
-// A verdict as a reply with a number of nodes.
-pub fn image_reply(v: Reply, count: usize) -> ImageReply
-    ensures { result ≡ counting v count }
-{
-    ImageReply {
-        number: v.number,
-        place: v.place,
-        count: count,
-    }
-}
-
-// A verdict as a reply with a number of numbers.
-pub fn made_reply(v: Reply, count: usize) -> MadeReply
-    ensures { result ≡ making v count }
-{
-    MadeReply {
-        number: v.number,
-        place: v.place,
-        count: count,
     }
 }
 

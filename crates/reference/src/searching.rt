@@ -3,7 +3,7 @@
 use super::evaluator::is_descendant;
 use super::indexing::NONE;
 use super::tree::Tree;
-use harness::table::{Set, Table, narrow, put};
+use harness::table::{Set, Table, copy, front, narrow, put};
 use model::Refusal;
 
 // Writes the descendants of a node that have the tag to the front of a buffer, as a set, and answers how many they are. An index
@@ -70,8 +70,6 @@ pub fn search(
     if room < n {
         return Err(Refusal::Room);
     }
-    for (place, x) in to.iter_mut().zip(&met).take(n) {
-        *place = *x;
-    }
+    copy(front(&met, n), to);
     Ok(count)
 }

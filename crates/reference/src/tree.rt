@@ -17,10 +17,6 @@ impl Tree {
         }
     }
 
-    pub fn numbers(&self) -> &[u16] {
-        self.table.numbers()
-    }
-
     // How many nodes there are.
     pub fn size(&self) -> usize {
         self.table.length() / 2

@@ -24,11 +24,6 @@ impl Text {
         self.length
     }
 
-    // Writes over a byte.
-    pub fn put(&mut self, at: usize, byte: u8) {
-        table::put(&mut self.bytes, at, byte);
-    }
-
     // A byte goes to the end.
     pub fn push(&mut self, byte: u8) {
         table::put(&mut self.bytes, self.length, byte);

@@ -11,10 +11,9 @@ use reference::{bit_damage, bit_tables, seeing};
 // What fills a buffer before a call: the bytes of the word are all 7.
 pub const PATTERN: u64 = 506381209866536711;
 
-// Compares a reply with the one that is due.
-pub fn expect(tally: &mut Tally, got: Reply, due: Result<(), Refusal>) {
-    let reply = Reply::from(due);
-    tally.expect_reply(got, usize::from(reply.number), usize::from(reply.place));
+// Compares what a service told with what is due.
+pub fn expect(tally: &mut Tally, got: Result<(), Refusal>, due: Result<(), Refusal>) {
+    tally.expect_reply(Reply::from(got), Reply::from(due));
 }
 
 // A call with so many variables, and room for so many words.
@@ -65,5 +64,12 @@ pub fn refuse(tally: &mut Tally, seed: &mut Seed, lent: Lent, n: usize) {
         query: &query,
         nodes: &nodes,
     };
-    compare(tally, other, f.columns, f.room, Err(f.refusal), &[PATTERN; 1040]);
+    compare(
+        tally,
+        other,
+        f.columns,
+        f.room,
+        Err(f.refusal),
+        &[PATTERN; 1040],
+    );
 }

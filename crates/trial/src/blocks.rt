@@ -19,9 +19,7 @@ const NONE: Reach = Reach { all: 0, bound: 0 };
 // What an operand has, if there is one.
 fn of_operand(reaches: &[Reach; 64], operand: Option<usize>) -> Reach {
     match operand {
-        Some(e) => {
-            if e < 64 { reaches[e] } else { NONE }
-        }
+        Some(e) => { if e < 64 { reaches[e] } else { NONE } }
         None => NONE,
     }
 }

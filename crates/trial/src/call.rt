@@ -3,9 +3,9 @@
 use super::bit_pairs;
 use harness::line::Line;
 use harness::shared::Shared;
-use harness::table::{Cells, Set, Table, front, narrow};
-use harness::tally::Tally;
-use model::{ImageReply, Reply};
+use harness::table::{Cells, Set, Table, front};
+use harness::tally::{Tally, uncounted};
+use model::{ImageReply, Refusal};
 use reference::query::Query;
 
 // The services; and all pairs by the engine over sets, which no service and no line asks for.
@@ -48,6 +48,15 @@ pub fn counting(count: usize) -> ImageReply {
     }
 }
 
+// A reply without a count as one of none.
+fn counted(told: Result<(), Refusal>) -> ImageReply {
+    let outcome: Result<usize, Refusal> = match told {
+        Ok(()) => Ok(0),
+        Err(refusal) => Err(refusal),
+    };
+    ImageReply::from(outcome)
+}
+
 // All pairs by the engine over sets, on the tree that the party sees: so that the two engines are compared.
 fn pairs_by_rows(
     tree: &[u16],
@@ -56,30 +65,27 @@ fn pairs_by_rows(
     columns: usize,
     nodes: &[u16],
     to: &mut [u8],
-) -> Reply {
+) -> Result<(), Refusal> {
     let mut table = [0u16; 512];
-    let sight = view::look(tree, party, &mut table);
-    let v = sight.reply;
-    if v.number != 0 {
-        return v;
-    }
-    let count = sight.count;
+    let count = view::look(tree, party, &mut table)?;
     images::pairs_by_rows(&table[..count], query, columns, nodes, to)
 }
 
-// The reply of the service; pairs has no count.
+// What the service tells of an image, or of the pairs.
 fn serve(c: Call, lent: Lent, set: &[u8], to: &mut [u8]) -> ImageReply {
     let t = lent.shared.numbers();
     let party = lent.shared.party();
     let q = lent.query.numbers();
     let k = lent.nodes.numbers();
     match c.service {
-        Service::Forwards => parties::forwards(t, party, q, c.columns, k, set, to),
-        Service::Backwards => parties::backwards(t, party, q, c.columns, k, set, to),
-        Service::Pairs => model::image_reply(parties::pairs(t, party, q, c.columns, k, to), 0),
-        Service::PairsByRows => {
-            model::image_reply(pairs_by_rows(t, party, q, c.columns, k, to), 0)
+        Service::Forwards => {
+            ImageReply::from(parties::forwards(t, party, q, c.columns, k, set, to))
         }
+        Service::Backwards => {
+            ImageReply::from(parties::backwards(t, party, q, c.columns, k, set, to))
+        }
+        Service::Pairs => counted(parties::pairs(t, party, q, c.columns, k, to)),
+        Service::PairsByRows => counted(pairs_by_rows(t, party, q, c.columns, k, to)),
     }
 }
 
@@ -87,14 +93,9 @@ fn serve(c: Call, lent: Lent, set: &[u8], to: &mut [u8]) -> ImageReply {
 fn compare(tally: &mut Tally, c: Call, lent: Lent, set: &[u8], to: &mut [u8], due: &[u8]) {
     let end = c.room.min(to.len());
     let got = serve(c, lent, front(set, c.set), &mut to[..end]);
-    let reply = Reply {
-        number: got.number,
-        place: got.place,
-    };
-    tally.expect_reply(reply, usize::from(c.due.number), usize::from(c.due.place));
     match c.service {
-        Service::Forwards | Service::Backwards => tally.expect(got.count == c.due.count),
-        _ => (),
+        Service::Forwards | Service::Backwards => tally.expect_counted(got, c.due),
+        _ => tally.expect_reply(uncounted(got), uncounted(c.due)),
     }
     tally.expect_bytes(to, due, c.room);
 }
@@ -143,11 +144,7 @@ pub fn run(tally: &mut Tally, shared: &Shared, query: &Query, line: &Line, servi
         columns: line.number(1, 0),
         set: line.length(3),
         room: line.number(1, 1),
-        due: ImageReply {
-            number: narrow(line.number(0, 0)),
-            place: narrow(line.number(0, 1)),
-            count: line.number(0, 2),
-        },
+        due: line.counted(0),
     };
     compare_set(tally, c, lent, &set, &due);
     if service != Service::Pairs {

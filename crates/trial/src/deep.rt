@@ -1,8 +1,8 @@
 // Deep queries: images and pairs, as bytes and as bits, compared with the reference evaluator. Their pairs are not asked of the engine over sets:
 // each set operation, closure and `same` that stands in another takes it n times as long.
+use super::bit_pairs;
 use super::call::{self, PATTERN};
 use super::compare::{accepted_pairs, compare_images, lent};
-use super::bit_pairs;
 use harness::line::Line;
 use harness::shared::Shared;
 use harness::table::Cells;

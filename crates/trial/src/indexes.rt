@@ -2,40 +2,16 @@
 // behind the result with what they held.
 use harness::line::Line;
 use harness::shared::Shared;
-use harness::table::{Rows, narrow};
+use harness::table::Rows;
 use harness::tally::Tally;
-use model::{Refusal, Reply};
-use reference::indexing::Made;
+use index::IndexReply;
+use model::Reply;
 
 // What fills the buffers before a call: in that of the index a number that is no node and does not stand for none, in that of the
 // tags one that is no tag, no node and no count.
 pub const NEXT_PATTERN: u16 = 65534;
 
 pub const TAGS_PATTERN: u16 = 65535;
-
-// The reply that is due, with how many numbers each buffer is given.
-#[derive(Clone, Copy)]
-pub struct Due {
-    pub reply: Reply,
-    pub made: Made,
-}
-
-// What is due where an index is made, or refused.
-pub fn due_of(outcome: Result<Made, Refusal>) -> Due {
-    match outcome {
-        Ok(made) => Due {
-            reply: Reply {
-                number: 0,
-                place: 0,
-            },
-            made,
-        },
-        Err(refusal) => Due {
-            reply: Reply::from(refusal),
-            made: Made { next: 0, tags: 0 },
-        },
-    }
-}
 
 // The room in both buffers.
 #[derive(Clone, Copy)]
@@ -44,11 +20,19 @@ pub struct Rooms {
     pub tags: usize,
 }
 
+// Number and place.
+fn reply_of(told: &IndexReply) -> Reply {
+    Reply {
+        number: told.number,
+        place: told.place,
+    }
+}
+
 pub fn compare(
     tally: &mut Tally,
     shared: &Shared,
     rooms: Rooms,
-    due: Due,
+    due: &IndexReply,
     due_next: &Rows,
     due_tags: &Rows,
 ) {
@@ -57,13 +41,15 @@ pub fn compare(
     let t = shared.numbers();
     let next_end = rooms.next.min(1024);
     let tags_end = rooms.tags.min(1024);
-    let got = parties::build_index(t, shared.party(), &mut next[..next_end], &mut tags[..tags_end]);
-    let reply = Reply {
-        number: got.number,
-        place: got.place,
-    };
-    tally.expect_reply(reply, usize::from(due.reply.number), usize::from(due.reply.place));
-    tally.expect((got.next == due.made.next) & (got.tags == due.made.tags));
+    let told = parties::build_index(
+        t,
+        shared.party(),
+        &mut next[..next_end],
+        &mut tags[..tags_end],
+    );
+    let got = IndexReply::from(told);
+    tally.expect_reply(reply_of(&got), reply_of(due));
+    tally.expect((got.next == due.next) & (got.tags == due.tags));
     tally.expect_rows(&next, due_next);
     tally.expect_rows(&tags, due_tags);
 }
@@ -78,15 +64,12 @@ pub fn run(tally: &mut Tally, shared: &Shared, line: &Line) {
         next: line.number(1, 0),
         tags: line.number(1, 1),
     };
-    let due = Due {
-        reply: Reply {
-            number: narrow(line.number(0, 0)),
-            place: narrow(line.number(0, 1)),
-        },
-        made: Made {
-            next: line.length(2),
-            tags: line.length(3),
-        },
+    let reply = line.reply(0);
+    let due = IndexReply {
+        number: reply.number,
+        place: reply.place,
+        next: line.length(2),
+        tags: line.length(3),
     };
-    compare(tally, shared, rooms, due, &next, &tags);
+    compare(tally, shared, rooms, &due, &next, &tags);
 }

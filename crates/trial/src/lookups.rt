@@ -5,7 +5,7 @@ use harness::line::Line;
 use harness::shared::Shared;
 use harness::table::{Set, Table, narrow};
 use harness::tally::Tally;
-use model::{ImageReply, Reply};
+use model::ImageReply;
 
 // A call: where it starts, the tag, the bytes that there is room for, and the reply that is due.
 #[derive(Clone, Copy)]
@@ -20,7 +20,7 @@ pub fn compare(tally: &mut Tally, shared: &Shared, next: &Table, c: Call, due: &
     let mut to = [call::PATTERN; 512];
     let t = shared.numbers();
     let end = c.room.min(512);
-    let got = parties::descendants(
+    let told = parties::descendants(
         t,
         shared.party(),
         next.numbers(),
@@ -28,12 +28,7 @@ pub fn compare(tally: &mut Tally, shared: &Shared, next: &Table, c: Call, due: &
         narrow(c.tag),
         &mut to[..end],
     );
-    let reply = Reply {
-        number: got.number,
-        place: got.place,
-    };
-    tally.expect_reply(reply, usize::from(c.due.number), usize::from(c.due.place));
-    tally.expect(got.count == c.due.count);
+    tally.expect_counted(ImageReply::from(told), c.due);
     tally.expect_bytes(&to, due, c.room);
 }
 
@@ -46,11 +41,7 @@ pub fn run(tally: &mut Tally, shared: &Shared, line: &Line) {
         start: line.number(1, 0),
         tag: line.number(1, 1),
         room: line.number(1, 2),
-        due: ImageReply {
-            number: narrow(line.number(0, 0)),
-            place: narrow(line.number(0, 1)),
-            count: line.number(0, 2),
-        },
+        due: line.counted(0),
     };
     compare(tally, shared, &next, c, &due);
 }

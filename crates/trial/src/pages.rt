@@ -2,9 +2,9 @@
 // what it held; a quick page also with the evaluations that are due, and with the most that document 02 allows.
 use harness::line::Line;
 use harness::shared::Shared;
-use harness::table::{Rows, narrow};
+use harness::table::Rows;
 use harness::tally::{Sum, Tally};
-use model::{Cursor, QuickReply, Refusal, Reply};
+use model::{Cursor, QuickPage, QuickReply, Refusal, Reply};
 use reference::query::Query;
 use reference::{rule, seeing};
 
@@ -42,49 +42,34 @@ pub struct After<'a> {
     pub cursor: Cursor,
 }
 
-// A page that was told, and the cursor after it.
-#[derive(Clone, Copy)]
-struct Told {
-    reply: QuickReply,
-    cursor: Cursor,
+// A refusal as the reply that is due.
+pub fn refusal(refusal: Refusal) -> QuickReply {
+    let due: Result<QuickPage, Refusal> = Err(refusal);
+    QuickReply::from(due)
 }
 
-// The reply that is due to a refused call.
-pub fn refusal(reply: Reply) -> QuickReply {
-    QuickReply {
-        number: reply.number,
-        place: reply.place,
-        count: 0,
-        more: false,
-        evaluations: 0,
+// A page in one of the two ways; one row by row does not tell its evaluations.
+fn serve(c: Call, way: Way, tables: Tables, rows: &mut [u16]) -> Result<QuickPage, Refusal> {
+    let t = tables.shared.numbers();
+    let party = tables.shared.party();
+    let q = tables.query.numbers();
+    match way {
+        Way::Plain => {
+            let page = parties::page_from(t, party, q, c.columns, c.cursor, rows)?;
+            Ok(QuickPage {
+                page,
+                evaluations: 0,
+            })
+        }
+        Way::Quick => parties::quick_page_from(t, party, q, c.columns, c.cursor, rows),
     }
 }
 
-// A page row by row, which does not tell its evaluations.
-fn serve_plain(c: Call, tables: Tables, rows: &mut [u16]) -> Told {
-    let t = tables.shared.numbers();
-    let party = tables.shared.party();
-    let p = parties::page_from(t, party, tables.query.numbers(), c.columns, c.cursor, rows);
-    let page = p.reply;
-    Told {
-        reply: QuickReply {
-            number: page.number,
-            place: page.place,
-            count: page.count,
-            more: page.more,
-            evaluations: 0,
-        },
-        cursor: p.cursor,
-    }
-}
-
-fn serve_quick(c: Call, tables: Tables, rows: &mut [u16]) -> Told {
-    let t = tables.shared.numbers();
-    let party = tables.shared.party();
-    let p = parties::quick_page_from(t, party, tables.query.numbers(), c.columns, c.cursor, rows);
-    Told {
-        reply: p.reply,
-        cursor: p.cursor,
+// The cursor after a call, which a refusal leaves as it was.
+fn cursor_after(c: Call, told: Result<QuickPage, Refusal>) -> Cursor {
+    match told {
+        Ok(quick) => quick.page.cursor,
+        Err(_) => c.cursor,
     }
 }
 
@@ -97,27 +82,29 @@ fn expect_evaluations(tally: &mut Tally, c: Call, evaluations: usize) {
     tally.add(Sum::Evaluations, evaluations as u64);
 }
 
+// Number and place.
+fn reply_of(told: QuickReply) -> Reply {
+    Reply {
+        number: told.number,
+        place: told.place,
+    }
+}
+
 // One call; answers the cursor after it.
 fn compare(tally: &mut Tally, way: Way, tables: Tables, c: Call, after: After) -> Cursor {
     let mut rows = [PATTERN; 1024];
     let end = c.room.min(1024);
-    let told = match way {
-        Way::Plain => serve_plain(c, tables, &mut rows[..end]),
-        Way::Quick => serve_quick(c, tables, &mut rows[..end]),
-    };
-    let got = told.reply;
-    let reply = Reply {
-        number: got.number,
-        place: got.place,
-    };
-    tally.expect_reply(reply, usize::from(c.due.number), usize::from(c.due.place));
+    let told = serve(c, way, tables, &mut rows[..end]);
+    let got = QuickReply::from(told);
+    let cursor = cursor_after(c, told);
+    tally.expect_reply(reply_of(got), reply_of(c.due));
     tally.expect((got.count == c.due.count) & (got.more == c.due.more));
     tally.expect_rows(&rows, after.rows);
-    tally.expect_cursor(told.cursor, after.cursor);
+    tally.expect_cursor(cursor, after.cursor);
     if way == Way::Quick {
         expect_evaluations(tally, c, got.evaluations);
     }
-    told.cursor
+    cursor
 }
 
 // A quick page that is refused; it leaves the cursor and the buffer as they were.
@@ -134,7 +121,7 @@ pub fn refuse_quick(
         columns,
         room,
         cursor,
-        due: refusal(Reply::from(due)),
+        due: refusal(due),
     };
     let after = After {
         rows: &[PATTERN; 1024],
@@ -147,11 +134,7 @@ pub fn refuse_quick(
 // page or, where the room is odd, after the quick one, so that they go on from each other.
 pub fn compare_ways(tally: &mut Tally, tables: Tables, c: Call, after: After) -> Cursor {
     let plain = compare(tally, Way::Plain, tables, c, after);
-    let due = Reply {
-        number: c.due.number,
-        place: c.due.place,
-    };
-    if let Some(refusal) = rule::refusal_for(tables.query, due) {
+    if let Some(refusal) = rule::refusal_for(tables.query, reply_of(c.due)) {
         refuse_quick(tally, tables, c.columns, c.room, c.cursor, refusal);
         return plain;
     }
@@ -164,14 +147,15 @@ pub fn compare_ways(tally: &mut Tally, tables: Tables, c: Call, after: After) ->
 pub fn run(tally: &mut Tally, tables: Tables, line: &Line, way: Way) {
     let mut rows = [PATTERN; 1024];
     line.copy_numbers(3, &mut rows);
+    let reply = line.reply(0);
     let c = Call {
         n: seeing::size(tables.shared),
         columns: line.number(1, 0),
         room: line.number(1, 1),
         cursor: line.cursor(2),
         due: QuickReply {
-            number: narrow(line.number(0, 0)),
-            place: narrow(line.number(0, 1)),
+            number: reply.number,
+            place: reply.place,
             count: line.number(0, 2),
             more: line.number(0, 3) != 0,
             evaluations: line.number(0, 4),

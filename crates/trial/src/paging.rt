@@ -6,7 +6,7 @@ use harness::line::Line;
 use harness::shared::Shared;
 use harness::table::Cells;
 use harness::tally::{Sum, Tally};
-use model::{Cursor, QuickReply, Reply};
+use model::{Cursor, QuickReply};
 use reference::evaluator::Pairs;
 use reference::listing::{Answers, due_page};
 use reference::random::Seed;
@@ -67,7 +67,7 @@ impl<'a> Walk<'a> {
             columns: f.columns,
             room: f.room,
             cursor: f.cursor,
-            due: pages::refusal(Reply::from(f.refusal)),
+            due: pages::refusal(f.refusal),
         };
         let after = After {
             rows: &[PATTERN; 1024],

@@ -7,9 +7,8 @@ use super::{
 use harness::chains;
 use harness::line::Line;
 use harness::shared::Shared;
-use harness::table::narrow;
-use harness::tally::{Sum, Tally};
-use model::Reply;
+use harness::tally::{ACCEPTED, Sum, Tally};
+use model::{Refusal, Reply};
 use reference::query::Query;
 use reference::random::Seed;
 
@@ -21,20 +20,17 @@ struct Present {
 }
 
 // The first part of a line says which number and place are due.
-fn expect(tally: &mut Tally, line: &Line, got: Reply) {
-    tally.expect_reply(got, line.number(0, 0), line.number(0, 1));
+fn expect(tally: &mut Tally, line: &Line, got: Result<(), Refusal>) {
+    tally.expect_reply(Reply::from(got), line.reply(0));
 }
 
 // The check of a shared table, which does not judge the party; where something is refused, so is the tree that is seen.
 fn expect_table(tally: &mut Tally, shared: &Shared, line: &Line) {
-    let due = Reply {
-        number: narrow(line.number(0, 0)),
-        place: narrow(line.number(0, 1)),
-    };
-    let got = ownership::check_table(shared.numbers());
+    let due = line.reply(0);
+    let got = Reply::from(ownership::check_table(shared.numbers()));
     match due.number {
-        31 => tally.expect_reply(got, 0, 0),
-        _ => expect(tally, line, got),
+        31 => tally.expect_reply(got, ACCEPTED),
+        _ => tally.expect_reply(got, due),
     }
     if 0 < due.number {
         views::refuse(tally, shared, 512, due);

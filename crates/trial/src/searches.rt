@@ -1,11 +1,12 @@
 // Random shared tables with the indexes of what a party sees, and searches by these and by damaged ones: compared with the reference,
 // whose index is made by looking at every node, and whose searches climb from every node.
-use super::indexes::{NEXT_PATTERN, Rooms, TAGS_PATTERN, due_of};
+use super::indexes::{NEXT_PATTERN, Rooms, TAGS_PATTERN};
 use super::{call, indexes, lookups};
 use harness::line::Line;
 use harness::shared::Shared;
 use harness::table::Table;
 use harness::tally::{Sum, Tally};
+use index::{IndexReply, Indexed};
 use model::{ImageReply, Refusal};
 use reference::random::Seed;
 use reference::tagging::Aim;
@@ -41,7 +42,21 @@ impl<'a> Sought<'a> {
         let mut next = [NEXT_PATTERN; 1024];
         let mut tags = [TAGS_PATTERN; 1024];
         let made = indexing::make_due(self.tree, rooms.next, rooms.tags, &mut next, &mut tags);
-        indexes::compare(tally, self.shared, rooms, due_of(made), &next, &tags);
+        let due: Result<Indexed, Refusal> = match made {
+            Ok(made) => Ok(Indexed {
+                next: made.next,
+                tags: made.tags,
+            }),
+            Err(refusal) => Err(refusal),
+        };
+        indexes::compare(
+            tally,
+            self.shared,
+            rooms,
+            &IndexReply::from(due),
+            &next,
+            &tags,
+        );
     }
 
     // A damaged table is refused whatever the rooms are, and nothing is written.
@@ -52,11 +67,12 @@ impl<'a> Sought<'a> {
             next: maybe_short(seed, self.tree.size()),
             tags: maybe_short(seed, length),
         };
+        let due: Result<Indexed, Refusal> = Err(refusal);
         indexes::compare(
             tally,
             &other,
             rooms,
-            due_of(Err(refusal)),
+            &IndexReply::from(due),
             &[NEXT_PATTERN; 1024],
             &[TAGS_PATTERN; 1024],
         );

@@ -1,36 +1,29 @@
 // The tree that a party sees: each call is compared with the reply and the count that are due, and the buffer with the numbers that are
 // due, those behind the tree with what they held.
-use super::{pages, searches};
+use super::{call, pages, searches};
 use harness::line::Line;
 use harness::shared::Shared;
-use harness::table::{Table, narrow};
+use harness::table::{Table, copy};
 use harness::tally::Tally;
-use model::{MadeReply, Reply};
+use model::{ImageReply, Refusal, Reply};
 use reference::damage;
 use reference::random::Seed;
 use reference::tree::Tree;
 
 // A call with room for so many numbers: a reply is due, and numbers at the front of the buffer.
-fn compare(tally: &mut Tally, shared: &Shared, room: usize, due: MadeReply, numbers: &[u16]) {
+fn compare(tally: &mut Tally, shared: &Shared, room: usize, due: ImageReply, numbers: &[u16]) {
     let mut to = [pages::PATTERN; 1024];
     let mut rows = [pages::PATTERN; 1024];
-    for (place, x) in rows.iter_mut().zip(numbers) {
-        *place = *x;
-    }
+    copy(numbers, &mut rows);
     let end = room.min(1024);
     let got = view::seen(shared.numbers(), shared.party(), &mut to[..end]);
-    let reply = Reply {
-        number: got.number,
-        place: got.place,
-    };
-    tally.expect_reply(reply, usize::from(due.number), usize::from(due.place));
-    tally.expect(got.count == due.count);
+    tally.expect_counted(ImageReply::from(got), due);
     tally.expect_rows(&to, &rows);
 }
 
 // A call that is refused; the buffer is left as it was.
 pub fn refuse(tally: &mut Tally, shared: &Shared, room: usize, reply: Reply) {
-    let due = MadeReply {
+    let due = ImageReply {
         number: reply.number,
         place: reply.place,
         count: 0,
@@ -40,12 +33,13 @@ pub fn refuse(tally: &mut Tally, shared: &Shared, room: usize, reply: Reply) {
 
 // A call that is accepted: the tree is due, at the front of so much room.
 fn accept(tally: &mut Tally, shared: &Shared, room: usize, tree: &Table) {
-    let due = MadeReply {
-        number: 0,
-        place: 0,
-        count: tree.length(),
-    };
-    compare(tally, shared, room, due, tree.numbers());
+    compare(
+        tally,
+        shared,
+        room,
+        call::counting(tree.length()),
+        tree.numbers(),
+    );
 }
 
 // Room for the tree and no more, for more, for one number less, and any room for a table with a fault.
@@ -53,13 +47,14 @@ pub fn compare_rooms(tally: &mut Tally, seed: &mut Seed, shared: &Shared, tree: 
     let mut other = *shared;
     let needed = tree.table.length();
     let more = searches::enough(seed, needed).wrapping_add(1);
-    let short = Reply {
-        number: 20,
-        place: 0,
-    };
     accept(tally, shared, needed, &tree.table);
     accept(tally, shared, more, &tree.table);
-    refuse(tally, shared, needed.wrapping_sub(1), short);
+    refuse(
+        tally,
+        shared,
+        needed.wrapping_sub(1),
+        Reply::from(Refusal::Room),
+    );
     let refusal = damage::in_shared(seed, &mut other);
     let room = searches::maybe_short(seed, needed);
     refuse(tally, &other, room, Reply::from(refusal));
@@ -67,10 +62,7 @@ pub fn compare_rooms(tally: &mut Tally, seed: &mut Seed, shared: &Shared, tree: 
 
 // yields NUMBER PLACE | ROOM | TABLE
 pub fn run(tally: &mut Tally, shared: &Shared, line: &Line) {
-    let due = Reply {
-        number: narrow(line.number(0, 0)),
-        place: narrow(line.number(0, 1)),
-    };
+    let due = line.reply(0);
     let room = line.number(1, 0);
     if due.number == 0 {
         accept(tally, shared, room, &line.table(2));

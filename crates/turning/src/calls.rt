@@ -2,9 +2,9 @@
 // compared with what is due.
 use harness::line::Line;
 use harness::shared::Shared;
-use harness::table::{Rows, front};
-use harness::tally::Tally;
-use model::{MadeReply, Refusal, Reply};
+use harness::table::{Rows, copy, front};
+use harness::tally::{ACCEPTED, Tally};
+use model::{ImageReply, Refusal, Reply};
 use reference::damage;
 use reference::query::Query;
 use reference::random::Seed;
@@ -20,45 +20,38 @@ pub struct Call<'a> {
     pub room: usize,
 }
 
-// The reply of the service, which writes to the front of a buffer.
-fn serve(c: Call, to: &mut Rows) -> MadeReply {
+// The service, which writes to the front of a buffer.
+fn serve(c: Call, to: &mut Rows) -> Result<usize, Refusal> {
     let room = c.room.min(1024);
     reversal::reverse(c.query.numbers(), c.columns, &mut to[..room])
 }
 
-// A call with the reply that is due, and with the table that is due at the buffer's front if it is accepted; the rest of the buffer is
-// due to be as it was.
-fn compare(tally: &mut Tally, c: Call, number: usize, place: usize, table: &[u16]) {
+// A call with the reply that is due, and the numbers that are due at the buffer's front; the rest of the buffer is due to be as it was.
+fn compare(tally: &mut Tally, c: Call, due: ImageReply, numbers: &[u16]) {
     let mut to = [PATTERN; 1024];
-    let mut due = [PATTERN; 1024];
-    let mut count = 0;
-    if number == 0 {
-        count = table.len();
-        for (at, x) in due.iter_mut().zip(table) {
-            *at = *x;
-        }
-    }
+    let mut rows = [PATTERN; 1024];
+    copy(numbers, &mut rows);
     let got = serve(c, &mut to);
-    let reply = Reply {
-        number: got.number,
-        place: got.place,
-    };
-    tally.expect_reply(reply, number, place);
-    tally.expect(got.count == count);
-    tally.expect_rows(&to, &due);
+    tally.expect_counted(ImageReply::from(got), due);
+    tally.expect_rows(&to, &rows);
 }
 
 // A call that is refused.
-fn refuse(tally: &mut Tally, c: Call, due: Reply) {
-    compare(tally, c, usize::from(due.number), usize::from(due.place), &[]);
+fn refuse(tally: &mut Tally, c: Call, refusal: Refusal) {
+    let due: Result<usize, Refusal> = Err(refusal);
+    compare(tally, c, ImageReply::from(due), &[]);
 }
 
-// The number of the reply to a query that is accepted, where its reversed query has the table that is due.
-fn due_number(table: &[u16], room: usize) -> usize {
-    if 256 < table.len() {
-        return 26;
+// What is due to a query that is accepted, where its reversed query has the table that is due.
+fn due_for(table: &[u16], room: usize) -> Result<usize, Refusal> {
+    let count = table.len();
+    if 256 < count {
+        return Err(Refusal::TooManyEntries);
     }
-    if room < table.len() { 20 } else { 0 }
+    if room < count {
+        return Err(Refusal::Room);
+    }
+    Ok(count)
 }
 
 // A call with a query that is accepted, and room for so many numbers, or for 1024 where that is less.
@@ -67,7 +60,9 @@ fn compare_room(tally: &mut Tally, call: Call, room: usize, table: &[u16]) {
         room: room.min(1024),
         ..call
     };
-    compare(tally, c, due_number(table, c.room), 0, table);
+    let due = due_for(table, c.room);
+    let written = if due.is_ok() { table } else { &[] };
+    compare(tally, c, ImageReply::from(due), written);
 }
 
 // Buffers that are exactly long enough, one number too short, too short by any number of them, and of any length.
@@ -81,12 +76,10 @@ pub fn compare_rooms(tally: &mut Tally, seed: &mut Seed, c: Call, table: &[u16])
 
 // A call that is due to be judged as the check of the query judges it, and refused if that does.
 fn compare_check(tally: &mut Tally, c: Call, table: &[u16]) {
-    let v = query::check_query(c.query.numbers(), c.columns);
-    if v.number == 0 {
-        compare_room(tally, c, c.room, table);
-        return;
+    match query::check_query(c.query.numbers(), c.columns) {
+        Ok(()) => compare_room(tally, c, c.room, table),
+        Err(refusal) => refuse(tally, c, refusal),
     }
-    refuse(tally, c, v);
 }
 
 // The query, of fewer than 64 entries, with a fault, of which the reply is known; and as it is with another number of variables, which
@@ -94,13 +87,13 @@ fn compare_check(tally: &mut Tally, c: Call, table: &[u16]) {
 pub fn compare_faults(tally: &mut Tally, seed: &mut Seed, call: Call, table: &[u16]) {
     let mut shared = Shared::new();
     let mut other = *call.query;
-    let due: Refusal = damage::in_table(seed, &mut shared, &mut other, 1);
+    let refusal = damage::in_table(seed, &mut shared, &mut other, 1);
     let broken = Call {
         query: &other,
         columns: call.columns,
         room: seed.between(0, 1024),
     };
-    refuse(tally, broken, Reply::from(due));
+    refuse(tally, broken, refusal);
     let c = Call {
         room: seed.between(0, 1024),
         columns: seed.below(6),
@@ -112,7 +105,7 @@ pub fn compare_faults(tally: &mut Tally, seed: &mut Seed, call: Call, table: &[u
 // The reversed query is accepted for the same number of variables.
 pub fn expect_accepted(tally: &mut Tally, reversed: &Query, columns: usize) {
     let got = query::check_query(reversed.numbers(), columns);
-    tally.expect_reply(got, 0, 0);
+    tally.expect_reply(Reply::from(got), ACCEPTED);
 }
 
 // The reversed query; an empty one if it is refused.
@@ -123,9 +116,9 @@ pub fn reverse(query: &Query, columns: usize) -> Query {
         columns,
         room: 1024,
     };
-    let got = serve(c, &mut to);
+    let count = serve(c, &mut to).unwrap_or(0);
     let mut reversed = Query::new();
-    for x in front(&to, got.count) {
+    for x in front(&to, count) {
         reversed.table.push(usize::from(*x));
     }
     reversed
@@ -142,5 +135,9 @@ pub fn run(tally: &mut Tally, line: &Line) {
         room: line.number(1, 1),
     };
     let table = line.table(3);
-    compare(tally, c, line.number(0, 0), line.number(0, 1), table.numbers());
+    let due = ImageReply {
+        count: table.length(),
+        ..line.counted(0)
+    };
+    compare(tally, c, due, table.numbers());
 }

@@ -77,5 +77,14 @@ pub fn run(
         reversed,
         twice: reverse(&reversed, columns),
     };
-    compare_all(tally, counts, seed, &seen.shared, &seen.tree, &turned, columns, pairs);
+    compare_all(
+        tally,
+        counts,
+        seed,
+        &seen.shared,
+        &seen.tree,
+        &turned,
+        columns,
+        pairs,
+    );
 }

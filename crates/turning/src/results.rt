@@ -5,8 +5,8 @@ use super::counts::Counts;
 use harness::line::Line;
 use harness::shared::Shared;
 use harness::table::{Cells, Set, Table, at, front, put};
-use harness::tally::{Sum, Tally};
-use model::{ImageReply, Reply};
+use harness::tally::{ACCEPTED, Sum, Tally};
+use model::{ImageReply, Refusal, Reply};
 use reference::evaluator::{Asked, Pairs, fill, outcome};
 use reference::query::Query;
 use reference::random::{Seed, make_nodes, make_set};
@@ -30,7 +30,13 @@ struct Image {
 }
 
 // The image of a set.
-fn serve(lent: Lent, query: &Query, back: bool, set: &[u8], to: &mut [u8]) -> ImageReply {
+fn serve(
+    lent: Lent,
+    query: &Query,
+    back: bool,
+    set: &[u8],
+    to: &mut [u8],
+) -> Result<usize, Refusal> {
     let t = lent.shared.numbers();
     let party = lent.shared.party();
     let q = query.numbers();
@@ -45,12 +51,12 @@ fn serve(lent: Lent, query: &Query, back: bool, set: &[u8], to: &mut [u8]) -> Im
 fn compare(tally: &mut Tally, lent: Lent, query: &Query, back: bool, set: &[u8], due: &Image) {
     let mut to = [PATTERN; 512];
     let got = serve(lent, query, back, set, &mut to);
-    let reply = Reply {
-        number: got.number,
-        place: got.place,
+    let reply = ImageReply {
+        number: 0,
+        place: 0,
+        count: due.count,
     };
-    tally.expect_reply(reply, 0, 0);
-    tally.expect(got.count == due.count);
+    tally.expect_counted(ImageReply::from(got), reply);
     tally.expect_bytes(&to, &due.bytes, 256);
 }
 
@@ -116,8 +122,15 @@ fn compare_served(tally: &mut Tally, lent: Lent, query: &Query, due: &Cells, cou
     let mut got = [PATTERN; 66560];
     let t = lent.shared.numbers();
     let k = lent.nodes.numbers();
-    let reply = parties::pairs(t, lent.shared.party(), query.numbers(), k.len(), k, &mut got);
-    tally.expect_reply(reply, 0, 0);
+    let told = parties::pairs(
+        t,
+        lent.shared.party(),
+        query.numbers(),
+        k.len(),
+        k,
+        &mut got,
+    );
+    tally.expect_reply(Reply::from(told), ACCEPTED);
     tally.expect_bytes(&got, due, count);
 }
 

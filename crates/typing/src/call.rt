@@ -35,7 +35,7 @@ pub fn refused(refusal: Refusal) -> ReadReply {
 }
 
 // Lends the front of the buffer, or all of it where that is less.
-fn call(lent: Lent, query: &mut Numbers) -> ReadReply {
+fn call(lent: Lent, query: &mut Numbers) -> Result<Read, Refusal> {
     let room = lent.room.min(320);
     reader::read(lent.text, lent.house, lent.site, &mut query[..room])
 }
@@ -44,7 +44,7 @@ impl Record {
     // A call with the reply and the buffer that are due.
     pub fn compare(&mut self, lent: Lent, due: ReadReply, table: &Numbers) {
         let mut query = NOTHING;
-        let got = call(lent, &mut query);
+        let got = ReadReply::from(call(lent, &mut query));
         self.counts.add_reply(got.number);
         self.tally.expect(same_reply(got, due));
         self.tally.expect(query == *table);
@@ -58,7 +58,7 @@ impl Record {
     // A call with a text that is grammatical, and of whose table nothing is known.
     pub fn compare_whole(&mut self, lent: Lent) {
         let mut query = NOTHING;
-        let got = call(lent, &mut query);
+        let got = ReadReply::from(call(lent, &mut query));
         self.counts.add_reply(got.number);
         let has_table = (0 < got.count) & (got.count <= lent.room);
         match got.number {
