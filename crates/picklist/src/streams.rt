@@ -63,11 +63,7 @@ pub fn write_whole<W: Write>(clock: &impl Clock, to: &mut W, buf: &[u8]) -> bool
 }
 
 // Reads until buf is full or the input ends, and tells how many bytes came; or how many came before a read failed.
-pub fn read_whole<R: Read>(
-    clock: &impl Clock,
-    from: &mut R,
-    buf: &mut [u8],
-) -> Result<usize, usize>
+pub fn read_whole<R: Read>(clock: &impl Clock, from: &mut R, buf: &mut [u8]) -> Result<usize, usize>
     ensures { MatchResult result (λ n. IsPrefixLen n buf.new) (λ n. IsPrefixLen n buf.new) }
 {
     let mut done = 0;
