@@ -2,13 +2,13 @@
 -- its first row.
 use Prim.Native.Nat.{ℕ, zero, suc, ◌<◌, ◌≤◌}
 use native.Mathlib.Omega.{arith}
-use mathlib.Core.Path.{◌≡◌, refl, sym, ap, ap₂, ◌∙◌, subst}
+use mathlib.Core.Path.{◌≡◌, refl, sym, ap, ap₂, ◌∙◌}
 use mathlib.Core.Logic.{◌⊎◌}
 use mathlib.Core.Bool.{Bool, true, false}
 use mathlib.Core.List.{List, [], ◌∷◌}
 use lib.Dec.{eqb}
 use lib.ListN.{length, take, get_or}
-use lib.Seq.{take_all, take-take, get_or-take}
+use lib.Seq.{take-take, get_or-take}
 use borrow.Author.Tests.{lt-ltb, eqb-true}
 use Rattle.model.specs.Tree.{tree_of, size_of}
 use Rattle.model.specs.QueryTable.{path_at, last_of}
@@ -91,19 +91,6 @@ module _ {t prev q : List ℕ} {k low : ℕ} {row : List ℕ} (ok : Listed t pre
   -- the row is the first of its block
   heads_from : {i : ℕ} → ZerosFrom k low row i → Heads (size_of t) k i row
   heads_from z = record { few = ok.searchable.most; within = z.within; nodes = nodes; zeros = z.zeros }
-
-  -- the block is the row
-  pub block_row : (i : ℕ) → ZerosFrom k low row i → k ≤ i → satisfied t q (take k row) ≡ false → EmptyBlock t q k i row
-  block_row i z l f = record {
-    heads = heads_from z;
-    none = λ x e b h s. no_yes f (subst (λ (y : Row). satisfied t q y ≡ true) (same x e s) h);
-  }
-    where
-      is : i ≡ k
-      is = omega (arith, z.within)
-
-      same : (x : Row) → length x ≡ k → take i x ≡ take i row → x ≡ take k row
-      same x e s = sym (take_all k x (omega arith)) ∙ subst (λ (j : ℕ). take j x ≡ take j row) is s
 
   -- the query has no pair with the variables from i on standing for any node, and no variable at a negative place is among these
   pub block_empty : (i : ℕ) → ZerosFrom k low row i → i < k → low ≡ bound_at q (last_of q) → (b : Bool) → b ≡ satisfied_open t q k row i → b ≡ false → EmptyBlock t q k i row

@@ -224,9 +224,3 @@ module _ (n k m : ℕ) (row : List ℕ) (head : Heads n k m row) (three : length
     pub counting_found : v + 1 < n
         → (take k (set next (i - 1) (get_or next (i - 1) 0 + 1)) ∷ keep (less (take k (set next (i - 1) (get_or next (i - 1) 0 + 1)))) (all_rows n k)) ≡ keep (less (take m row)) (all_rows n k)
     counting_found h = counted next (i - 1) down (omega arith)
-
-  -- no number is below the last: no row is after the block
-  pub counting_done : (next : List ℕ) (i : ℕ) → Counting n k m row next i → i ≤ 0 → [] ≡ keep (less (take m row)) (all_rows n k)
-  counting_done next i w h =
-      let e : i ≡ 0 = omega arith in
-      sym (subst (λ (z : ℕ). Final n z (take m row)) (let z : k - 0 ≡ k = omega arith in z) (subst (λ (z : ℕ). Final n (k - z) (drop z (take m row))) e w.final))

@@ -1,6 +1,6 @@
 -- The query, opened: as a table it can be searched as the query can, and it has a pair under a row where it has one with the first numbers
 -- of the row filled and the other variables standing for any node.
-use Prim.Native.Nat.{ℕ, ◌+◌, ◌*◌, ◌<◌, ◌≤◌}
+use Prim.Native.Nat.{ℕ, ◌+◌, ◌<◌, ◌≤◌}
 use native.Mathlib.Decide.{dec_lt}
 use native.Mathlib.Omega.{arith}
 use mathlib.Core.Path.{◌≡◌, refl, sym, ◌∙◌}
@@ -43,9 +43,6 @@ module _ {t prev q : List ℕ} {k : ℕ} (ok : Listed t prev q k) where
   -- The table.
 
   module _ (i : ℕ) (r : List ℕ) (o : Opens q i r) where
-    pub opened_length : 4 * (entries_of q + 2) ≡ length (opened_table q r)
-    opened_length = sym (length-take-le (4 * (entries_of q + 2)) r (omega (arith, ok.shaped.few, o.front.size)))
-
     pub opened_searchable : Searchable t prev (opened_table q r) k
     opened_searchable =
         let within : last_of q < entries_of q = ok.searchable.path.within in

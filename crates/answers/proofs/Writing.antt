@@ -1,6 +1,6 @@
 -- Laws of the loops that write rows to a buffer.
 use Prim.Native.Nat.{ℕ, zero, suc, ◌+◌, ◌*◌, ◌/◌, ◌≤◌}
-use native.Mathlib.Nat.{add_comm, zero-mul, suc-mul, mul-le-mul_right, div-mul-le_self, div-le_self}
+use native.Mathlib.Nat.{add_comm, zero-mul, suc-mul}
 use native.Mathlib.Numerals.{add-one}
 use native.Mathlib.Omega.{arith}
 use mathlib.Core.Path.{◌≡◌, refl, sym, ap, ap₂, ◌∙◌, subst}
@@ -66,26 +66,6 @@ module _ {k : ℕ} {L : List Row} {c : Cursor} {first : List ℕ} {at : Spot} {l
   -- the rows so far take up their numbers
   used : length (flat (take count (after k L c))) ≡ count * k
   used = flat_long k (take count (after k L c)) (λ r i. g.wide r (in_after r L k c (in_take count r (after k L c) i))) ∙ ap (λ (z : ℕ). z * k) g.long
-
-  fit : count * k ≤ length first
-  fit = omega (arith, mul-le-mul_right k g.few, div-mul-le_self (length first) k)
-
-  pub going_length : length rows ≡ length first
-  going_length =
-      ap length g.held ∙ length-append (flat (take count (after k L c))) (drop (count * k) first)
-      ∙ omega (arith, used, fit, length-drop (count * k) first)
-
-  module _ (ne : count ≡ length first / k → ⊥) where
-    -- one more row fits
-    fits : count * k + k ≤ length first
-    fits =
-        omega (arith, suc-mul count k, mul-le-mul_right k (let l : suc count ≤ length first / k = omega (arith, g.few) in l), div-mul-le_self (length first) k)
-
-    pub going_fits : count * k + k ≤ length rows
-    going_fits = omega (arith, fits, going_length)
-
-    pub going_count : count + 1 ≤ length first
-    going_count = omega (arith, g.few, div-le_self (length first) k)
 
   -- the spot is at one of the rows
   module _ (row : List ℕ) (there : at ≡ Some row) where

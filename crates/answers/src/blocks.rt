@@ -31,11 +31,8 @@ pub fn goes_on(search: &Search, i: usize, row: [u16; 3]) -> bool
     let table = opening::open(search.query, i);
     let end = 4 * (search.query.len() / 4 + 2);
     let opened = Search {
-        tree: search.tree,
-        prev: search.prev,
         query: &table[..end],
-        whole: search.whole,
-        k: search.k,
+        ..*search
     };
     super::satisfies(&opened, row)
 }

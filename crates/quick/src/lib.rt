@@ -87,11 +87,8 @@ fn lowest_from(search: &Search, row: [u16; 3], i: usize, from: usize, spent: usi
     let table = opening::open(search.query, filled);
     let end = 4 * (search.query.len() / 4 + 2);
     let opened = Search {
-        tree: search.tree,
-        prev: search.prev,
         query: &table[..end],
-        whole: search.whole,
-        k: search.k,
+        ..*search
     };
     lowest_passing(&opened, row, i, from, spent)
 }
@@ -176,7 +173,8 @@ fn first_answer(search: &Search, cursor: model::Cursor) -> Found
 // A page of them.
 
 // The answers after a cursor are written to a buffer, as many as it has whole room for, and one more is looked for, to tell
-// whether there is one. At most 6 × n evaluations for each row written, and as many for that one.
+// whether there is one. At most 6 × n evaluations for each row written, and as many for that one. The loop of crate `answers` beside a count
+// of evaluations: shared, each would have to promise what the other does of that count.
 fn write_page(search: &Search, cursor: model::Cursor, rows: &mut [u16]) -> model::QuickPage
     requires { ReadyFor search.now
         × (has_begun cursor ≡ true → Below (size_of search.now.tree.now) (row_of search.now.k cursor)) }

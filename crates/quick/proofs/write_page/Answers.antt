@@ -1,4 +1,3 @@
-use Rattle.answers.proofs.Writing.{going_fits}
 use Rattle.quick.proofs.Writing.{written_start, written_below, written_fits, written_turn, written_full, written_out}
 use Rattle.quick.proofs.write_page.Goals as goal
 
@@ -7,9 +6,6 @@ loop-at-init c = written_start _ _ _ _ _ _ c.first_answer-first.ensures
 
 pub returns-then-count-room : goal.returns-then-count-room
 returns-then-count-room c = written_full c.loop-at.invariant c.in-Some.row c.in-Some.is c.if-count-room.true
-
-pub write_row-requires : goal.write_row-requires
-write_row-requires c = (c.requires.0.listed.searchable.most, going_fits c.loop-at.invariant.going c.if-count-room.false)
 
 pub answer_after-following-requires : goal.answer_after-following-requires
 answer_after-following-requires c = (c.requires.0, written_below c.loop-at.invariant c.in-Some.row c.in-Some.is)
