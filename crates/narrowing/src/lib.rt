@@ -95,7 +95,8 @@ impl<'a> Search<'a> {
         }
     }
 
-    // What the variables decide of the query. At most one evaluation of each entry.
+    // What the variables decide of the query. At most one evaluation of each entry. Out of line, so that its sets stand on no caller's frame.
+    #[inline(never)]
     pub fn narrow(&self) -> Narrowed
         requires { Searches self.now × Named self.now.query.now }
         ensures { CoreOf self.now.tree.now self.now.query.now self.now.k result }

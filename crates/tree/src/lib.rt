@@ -24,7 +24,8 @@ pub fn tag(tree: &[u16], x: usize) -> u16
 }
 
 // Each node's previous sibling, or 65535 where it has none: at 2 × y, where a tree table has y's parent. One turn a node: it
-// reads the last child so far of its parent, and then is that child.
+// reads the last child so far of its parent, and then is that child. Out of line, so that what it keeps stands on no caller's frame.
+#[inline(never)]
 pub fn previous_siblings(tree: &[u16]) -> [u16; 512]
     requires { Sound (tree_of tree.now) }
     ensures { PreviousSiblings (tree_of tree.now) (size_of tree.now) result }

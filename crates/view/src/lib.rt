@@ -18,7 +18,8 @@ fn is_open(owner: u16, party: u16) -> bool
 
 // The seen nodes, over the front of a table of 512 numbers, and how many they are. One turn a node, without a branch: each node is
 // written where the next seen one stands, and stays if it is seen itself. Its new number is kept for its children, or 65535 where it is
-// not seen.
+// not seen. Out of line, so that the numbers stand on no caller's frame.
+#[inline(never)]
 fn fill(tree: &[u16], party: u16, table: &mut [u16]) -> usize
     requires { AcceptedTable tree.now × (length table.old ≡ 512) }
     ensures { Filled tree.now party result table.new }
