@@ -20,7 +20,7 @@ LOOPS = {"while", "for", "loop"}
 BLOCKS = LOOPS | {"if", "else"}
 WORDS = {"as", "true", "false", "mut"}  # keywords that a value may have
 LEAVES = {"return", "break", "continue"}
-CONVERSIONS = {n + "::from" for n in ("u8", "u16", "u64", "usize")}  # a number of another type: read as the number, and no call
+CONVERSION = re.compile(r"(?:u8|u16|u64|usize|\w*Reply)::from")  # a number or a result in another type: read as such, and no call
 METHODS = {"len", "fill"}  # the methods that are read: of a slice its length, and a part of it written over
 KEYWORDS = BLOCKS | WORDS | LEAVES | {"let", "in", "match", "use", "fn", "const"}
 
@@ -90,7 +90,7 @@ def calls(tokens):
         is_macro = before == "!" and NAME.fullmatch(tokens[i - 2])
         if token == "(" and (before in (")", "]") or is_macro) or token == ":" == before:
             raise Fault("'%s'" % " ".join(tokens[max(i - 3, 0) : i + 2]))
-        if behind == ["("] and NAME.fullmatch(token.split("::")[-1]) and token not in KEYWORDS | CONVERSIONS:
+        if behind == ["("] and NAME.fullmatch(token.split("::")[-1]) and token not in KEYWORDS and not CONVERSION.fullmatch(token):
             if before != ".":
                 found.append(Call(tokens, i))
             elif token not in METHODS:
