@@ -48,9 +48,10 @@ pub fn satisfies(search: &Search, row: [u16; 3]) -> bool
         query: search.query,
         nodes: &row[..search.k],
     };
-    let mut found = 0;
-    engines::image(&call, search.whole, last, false, sets::full(n), &mut found);
-    found != 0
+    sets::occupied(
+        n,
+        engines::image(&call, search.whole, last, false, sets::full(n)),
+    )
 }
 
 // A page of them.

@@ -34,10 +34,9 @@ pub fn image_into(
         nodes,
     };
     let last = query.len() / 4 - 1;
-    let mut count = 0;
-    let r = engines::image(&call, whole, last, back, s, &mut count);
+    let r = engines::image(&call, whole, last, back, s);
     sets::put(to, r, tree.len() / 2);
-    count
+    sets::count_of(r)
 }
 
 // All pairs of the query: the table of bits, made in an array of this function, and unpacked row after row.

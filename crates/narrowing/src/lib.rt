@@ -29,7 +29,7 @@ pub struct Search<'a> {
 }
 
 // What is left of a query: the path at an entry, or nothing; the nodes that it starts from, and those that it may end at. `cut` says
-// whether the latter may be other than all nodes: they are read in either case, but uncut, how many nodes are reached tells as well.
+// whether the latter may be other than all nodes: they are read in either case, but uncut, whether a node is reached tells as well.
 #[derive(Clone, Copy)]
 pub struct Narrowed {
     pub entry: Option<usize>,
@@ -60,8 +60,7 @@ impl<'a> Search<'a> {
             query: self.query,
             nodes: &zeros[..self.k],
         };
-        let mut found = 0;
-        engines::image(&call, self.whole, e, back, from, &mut found)
+        engines::image(&call, self.whole, e, back, from)
     }
 
     // The nodes where a node expression holds. One evaluation.
@@ -76,8 +75,7 @@ impl<'a> Search<'a> {
             query: self.query,
             nodes: &zeros[..self.k],
         };
-        let mut found = 0;
-        engines::node(&call, self.whole, e, &mut found)
+        engines::node(&call, self.whole, e)
     }
 
     // An entry that no variable decides: where it leads is known, and nothing is left.
@@ -121,7 +119,7 @@ impl<'a> Search<'a> {
     }
 
     // The query is satisfied under a row. One evaluation of what is left of it, by whole tables where the flag is set; where the end is not
-    // cut, the number of nodes that it reaches tells.
+    // cut, whether it reaches a node tells.
     pub fn holds(&self, whole: bool, left: &Narrowed, row: [u16; 3]) -> bool
         requires { Searches self.now
             × (CoreOf self.now.tree.now self.now.query.now self.now.k left.now
@@ -138,10 +136,9 @@ impl<'a> Search<'a> {
             query: self.query,
             nodes: &row[..self.k],
         };
-        let mut found = 0;
-        let ends = engines::image(&call, whole, e, false, left.from, &mut found);
+        let ends = engines::image(&call, whole, e, false, left.from);
         if !left.cut {
-            return found != 0;
+            return sets::occupied(n, ends);
         }
         meet(n, ends, left.to)
     }
