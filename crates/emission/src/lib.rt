@@ -1,4 +1,4 @@
-// What each turn of the reading writes.
+// What each turn of the reading writes. Words, gaps and focuses go by their numbers here as in `machine`, which says why.
 #![tactic(auto)]
 
 ghost use Rattle.std.specs.Prelude.{◌≡◌, [], ◌∷◌, ◌≤◌, ◌<◌, length, get_or};

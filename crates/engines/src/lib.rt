@@ -5,6 +5,9 @@
 // tables every entry is evaluated once, as the whole relation that it stands for or as the set of nodes where it holds, and costs at most
 // about one composition of two tables, 4 * n * n words; the image is then read from the last table in one pass. So a query of 64 entries
 // costs at most about 64 compositions, however they nest.
+//
+// The choice is a Boolean, `whole`, and no closure or type of its own: it is what `nesting` tells of the query, and every arm that looks at
+// it has one contract.
 #![tactic(auto)]
 
 mod reading;

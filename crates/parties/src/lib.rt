@@ -1,7 +1,8 @@
 // The services that are lent a shared table and a party: each looks at the table for the party, and runs on the tree that the party sees.
 // None has a precondition: what is malformed is refused, and then nothing that was lent is altered. The look costs one pass over the
 // parents, one over tags and owners and one that writes the tree, whatever the service; all else is the service's own cost. The two lines of
-// a look stand in each of them: a function that ran a closure on the tree would learn nothing of the buffers that the closure writes.
+// a look stand in each of them: a function that ran a closure on the tree would learn nothing of the buffers that the closure writes. The
+// parameters are those of the C functions, one by one: a struct of them would be made there only to be taken apart here.
 #![tactic(auto)]
 
 ghost use Rattle.std.specs.Prelude.{true, false};

@@ -1,6 +1,7 @@
 // Typed queries read into query tables. The text is read word by word; each word moves a focus and a stack of gaps that are still
 // open (machine), and writes the entries that it completes (emission). Time in proportion to the text, and one look through the
-// name tables for each name; the gaps stand in an array, so that the stack has the same size whatever the nesting.
+// name tables for each name; the gaps stand in an array, so that the stack has the same size whatever the nesting. Words and focuses go by
+// their numbers here as in `machine`, which says why.
 #![tactic(auto)]
 
 ghost use Rattle.std.specs.Prelude.{◌≡◌, cond, ◌+◌, ◌-◌, ◌≤◌, ◌<◌, length, ltb, eqb};

@@ -2,6 +2,8 @@
 // previous sibling. A link is a lower number than its node's, so that one pass serves for any number of hops too.
 // Every function here is O(n). The two passes are kept out of the frames and the code of what calls them: the C header promises how
 // much stack a call takes, and how large the archive is.
+// Which way a link is gone, and whether more than once, are Booleans, as the definitions have them (`turn`, `along`): enums would be no
+// plainer, since each would be turned into its Boolean again in the clauses and in the branch-free test of a pass.
 #![tactic(auto)]
 
 ghost use Rattle.std.specs.Prelude.{◌≡◌, true, ◌*◌, ◌≤◌, ◌<◌, length, eqb};
