@@ -3,13 +3,13 @@ use Prim.Native.Nat.{ℕ, ◌<◌, ◌≤◌}
 use native.Mathlib.Omega.{arith}
 use mathlib.Core.Path.{◌≡◌, refl, sym, ap, ap₂, ◌∙◌, subst}
 use mathlib.Core.Logic.{◌⊎◌}
-use mathlib.Core.Bool.{Bool, true, false, ◌&&◌, and_comm}
+use mathlib.Core.Bool.{Bool, true, false, not, ◌&&◌, and_comm}
 use mathlib.Core.List.{List, [], ◌∷◌}
-use lib.Dec.{ltb}
+use lib.Dec.{ltb, eqb}
 use lib.ListN.{length, take}
 use borrow.Author.Tests.{lt-ltb}
 use Rattle.model.specs.declared.Cursor.{Cursor}
-use Rattle.model.specs.Sets.{any, tab, memb, upto, image}
+use Rattle.model.specs.Sets.{any, tab, ones, memb, upto, image}
 use Rattle.model.specs.Tree.{size_of}
 use Rattle.model.specs.QueryTable.{last_of}
 use Rattle.model.specs.Results.{related}
@@ -18,6 +18,7 @@ use Rattle.model.specs.Answers.{Row, less, keep, cons_if, all_rows, satisfied, a
 use Rattle.model.specs.Pages.{row_of, has_begun, after}
 use Rattle.model.proofs.Exists.{any_cong, any_swap}
 use Rattle.model.proofs.Bytes.{memb_tab}
+use Rattle.model.proofs.Counts.{ones_front, ones_any}
 use Rattle.model.proofs.Answers.{In, kept_in, all_below}
 use Rattle.sets.specs.NodeSets.{always}
 use Rattle.eval.specs.Evaluation.{reached}
@@ -29,11 +30,12 @@ use Rattle.answers.proofs.EmptyBlocks.{block_left_out, block_fewer}
 use Rattle.answers.proofs.Paging.{in_after}
 
 -- one evaluation: the image of all nodes has a node exactly if the query has a pair
-pub has_pair_lem : (t q row full bytes : List ℕ) (some : Bool) → some ≡ any (size_of t) (memb bytes) → bytes ≡ reached t q row (last_of q) false full
-    → full ≡ tab 256 (upto (size_of t) (always true)) → size_of t ≤ 256 → some ≡ satisfied t q row
+pub has_pair_lem : (t q row full bytes : List ℕ) (k : ℕ) → k ≡ ones bytes → bytes ≡ reached t q row (last_of q) false full
+    → full ≡ tab 256 (upto (size_of t) (always true)) → size_of t ≤ 256 → not (eqb k 0) ≡ satisfied t q row
 unfolding satisfied reached image upto
-has_pair_lem t q row full bytes some p r f h =
-    p
+has_pair_lem t q row full bytes k p r f h =
+    ap (λ (j : ℕ). not (eqb j 0)) (p ∙ ones_front (size_of t) _ bytes r h)
+    ∙ ones_any (memb bytes) (size_of t)
     ∙ ap (λ (z : List ℕ). any n (memb z)) (r ∙ ap (λ (z : List ℕ). tab 256 (λ y. ltb y n && any n (λ x. memb z x && R x y))) f)
     ∙ any_cong n (memb (tab 256 I)) (λ y. any n (λ x. R x y)) at
     ∙ any_swap n n (λ y x. R x y)

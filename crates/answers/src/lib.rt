@@ -48,10 +48,9 @@ pub fn satisfies(search: &Search, row: [u16; 3]) -> bool
         query: search.query,
         nodes: &row[..search.k],
     };
-    sets::occupied(
-        n,
-        engines::image(&call, search.whole, last, false, sets::full(n)),
-    )
+    let mut found = 0;
+    engines::image(&call, search.whole, last, false, sets::full(n), &mut found);
+    found != 0
 }
 
 // A page of them.

@@ -13,7 +13,7 @@ use Rattle.model.specs.declared.Entry.{Entry}
 use Rattle.model.specs.declared.kind.Kind.{Kind}
 use Rattle.model.specs.declared.kind.Kind.TheVariants.{And, Or}
 use Rattle.model.specs.Numbers.{kind_number}
-use Rattle.model.specs.Sets.{any, tab, memb, upto, turn, closed, image}
+use Rattle.model.specs.Sets.{any, tab, ones, memb, upto, turn, closed, image}
 use Rattle.model.specs.Tree.{tree_of, size_of}
 use Rattle.model.specs.Axes.{steps}
 use Rattle.model.specs.Syntax.{Path, NodeExpr}
@@ -21,10 +21,11 @@ use Rattle.model.specs.Syntax.Path.{step, compose, filter, from_root, closure}
 use Rattle.model.specs.Syntax.NodeExpr.{exists, negate, both, either, is, same}
 use Rattle.model.specs.Meaning.{pairs_over, holds_over, pairs, holds}
 use Rattle.model.specs.QueryTable.{kind, left, right, tag, entry, entries_of, path_at, expr_at}
-use Rattle.model.specs.Kinds.{left_path, left_expr, right_path, right_expr}
+use Rattle.model.specs.Kinds.{left_path, left_expr, right_path, right_expr, names_variable}
 use Rattle.model.specs.Results.{assigned, related}
 use Rattle.model.proofs.Exists.{any_cong, any_next, and_any}
 use Rattle.model.proofs.Bytes.{tab_cong, memb_yes, memb_no, memb_tab}
+use Rattle.model.proofs.Counts.{ones_bytes, ones_one}
 use Rattle.model.proofs.QueryTable.{at_step, at_compose, at_union, at_intersect, at_except, at_filter, at_variable, at_root, at_exists, at_negate, at_both, at_either, at_is, at_closure, at_same}
 use Rattle.model.proofs.Closure.{closed_turn}
 use Rattle.sets.specs.declared.Operation.{Operation}
@@ -32,7 +33,7 @@ use Rattle.sets.specs.NodeSets.{always, only, operation_number, combine, combina
 use Rattle.sets.proofs.Images.{memb_upto, upto_cong, only_upto, combine_upto, trim_upto, image_cong, image_from, image_turned, image_compose, image_or, image_keep, image_kept, image_all, image_one}
 use Rattle.eval.specs.Evaluation.{Ready, passing, passed, reached, row, joined, operation_of, ending}
 use Rattle.model.proofs.KindTests.{path_on_left, path_on_right}
-use Rattle.eval.proofs.Calls.{left_path_lem, right_path_lem, left_expr_lem, right_expr_lem}
+use Rattle.eval.proofs.Calls.{left_path_lem, right_path_lem, left_expr_lem, right_expr_lem, variable_small}
 
 -- pairs that end in a set
 
@@ -47,9 +48,13 @@ module _ (n : ℕ) (le : n ≤ 256) (back : Bool) (s to o : List ℕ) where
   ending_none p h q t b = rw b (p ∙ tab_cong 256 _ _ (λ y l. rw (le-ltb y 0 (omega arith)) (sym (ap (λ (z : Bool). ltb y n && z) (sym (and_any n (memb s) (memb to y)) ∙ rw (sym q ∙ t)) ∙ and-false (ltb y n)))))
 
   -- some node: the set itself
-  pub ending_some : (h : Bool) (m : List ℕ) → o ≡ tab 256 (combination 1 m to) → m ≡ tab 256 (upto n (always true)) → h ≡ any n (memb s) → h ≡ true → back ≡ false → o ≡ tab 256 (image n (turn back (ending to)) (memb s))
-  unfolding image
-  ending_some h m p q r t b = rw b (p ∙ rw q (trim_upto n le (always true) to ∙ upto_cong n le _ _ (λ y l. sym (sym (and_any n (memb s) (memb to y)) ∙ rw (sym r ∙ t)))))
+  module _ (m : List ℕ) (p : o ≡ tab 256 (combination 1 m to)) (q : m ≡ tab 256 (upto n (always true))) where
+    pub ending_some : (h : Bool) → h ≡ any n (memb s) → h ≡ true → back ≡ false → o ≡ tab 256 (image n (turn back (ending to)) (memb s))
+    unfolding image
+    ending_some h r t b = rw b (p ∙ rw q (trim_upto n le (always true) to ∙ upto_cong n le _ _ (λ y l. sym (sym (and_any n (memb s) (memb to y)) ∙ rw (sym r ∙ t)))))
+
+    pub ending_count : (k : ℕ) → k ≡ ones to → to ≡ tab 256 (upto n (memb to)) → k ≡ ones o
+    ending_count k c below = c ∙ ap ones (below ∙ sym (p ∙ rw q (trim_upto n le (always true) to)))
 
 -- an entry by what it is read as
 
@@ -178,6 +183,16 @@ module _ {t v q nodes : List ℕ} (ok : Ready t v q nodes) (e : ℕ) (b : Bool) 
   unfolding part reached image
   rows_end a x p l h = p ∙ ap (λ (k : ℕ). part t q nodes e b s k) (let g : x ≡ size_of t = omega arith in g)
 
+-- the row of a node holds no number that is no node
+pub row_below : {t v q nodes : List ℕ} → Ready t v q nodes → (e : ℕ) (b : Bool) (x : ℕ) (o : List ℕ) → o ≡ row t q nodes e b x → o ≡ tab 256 (upto (size_of t) (memb o))
+unfolding row
+row_below {t} {v} {q} {nodes} ok e b x o p =
+    p ∙ upto_cong (size_of t) (small ok) _ (memb o) (λ i l. sym (ap (λ (z : List ℕ). memb z i) p ∙ memb_upto (size_of t) (small ok) (related t q nodes e b x) i l))
+
+pub rows_count : (t q nodes : List ℕ) (e : ℕ) (b : Bool) (s a : List ℕ) (x k : ℕ) → k ≡ ones (tab 256 (memb a)) → a ≡ part t q nodes e b s x → k ≡ ones a
+unfolding part
+rows_count t q nodes e b s a x k p h = ones_bytes _ a k p h
+
 module _ {t v q nodes : List ℕ} {e : ℕ} {f : Entry} (fe : f ≡ entry q e) (ok : Ready t v q nodes) (em : e < entries_of q) where
   pub did_operands : (b : Bool) (op : ℕ) (s m n o : List ℕ) → o ≡ tab 256 (combination op m n) → m ≡ reached t q nodes f.left b s → n ≡ reached t q nodes f.right b s → op ≡ f.kind - 2 → o ≡ joined t q nodes e b s
   unfolding joined
@@ -187,6 +202,9 @@ module _ {t v q nodes : List ℕ} {e : ℕ} {f : Entry} (fe : f ≡ entry q e) (
   did_union b s o p h = p ∙ joined_union ok em b s (rw fe at h)
 
   -- a variable, a path from the root
+
+  pub variable_one : (o : List ℕ) → o ≡ tab 256 (only (assigned nodes f.left)) → names_variable f.kind ≡ true → 1 ≡ ones o
+  variable_one o p h = ones_one 256 (assigned nodes f.left) o p (variable_small fe ok em h)
 
   pub did_variable : (o : List ℕ) → o ≡ tab 256 (only (assigned nodes f.left)) → assigned nodes f.left < size_of t → f.kind ≡ 6 → o ≡ row t q nodes e false 0
   unfolding row related pairs_over

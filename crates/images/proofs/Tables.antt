@@ -18,7 +18,7 @@ use Rattle.model.specs.Refusals.{reply, refused, counting, verdict}
 use Rattle.model.specs.Checks.{image_checks, pairs_checks}
 use Rattle.model.specs.Services.{ImageLeaves, PairsLeave}
 use Rattle.model.proofs.Bytes.{tab_append, tab_cong, length_tab, length_over, tab_front, row_fits, cell_at}
-use Rattle.model.proofs.Counts.{ones_bytes, ones_front}
+use Rattle.model.proofs.Counts.{ones_front}
 use Rattle.model.proofs.Refusals.{counts_none, counts_some, written_not, written_over, refused_some}
 use Rattle.sets.specs.NodeSets.{only}
 use Rattle.sets.proofs.Images.{memb_upto, image_one, image_from}
@@ -73,11 +73,11 @@ pub image_front : (t q nodes : List ℕ) (back : Bool) (from s r to after : List
 image_front t q nodes back from s r to after p a c l fits = p ∙ ap (λ (x : List ℕ). x ++ drop (size_of t) to) (front t q nodes back from s r a c l fits)
 
 -- the count of the 256 bytes is that of the front
-pub image_counted : (t q nodes : List ℕ) (back : Bool) (from s r : List ℕ) (k : ℕ) → k ≡ ones (tab 256 (memb r))
+pub image_counted : (t q nodes : List ℕ) (back : Bool) (from s r : List ℕ) (k : ℕ) → k ≡ ones r
     → r ≡ reached t q nodes (last_of q) back s → s ≡ tab 256 (upto (length from) (memb from)) → length from ≡ size_of t → size_of t ≤ 256
     → k ≡ ones (image_bytes t q nodes back from)
 unfolding reached image
-image_counted t q nodes back from s r k p a c l fits = ones_bytes _ r k p a ∙ ones_front (size_of t) _ r a fits ∙ ap ones (front t q nodes back from s r a c l fits)
+image_counted t q nodes back from s r k p a c l fits = p ∙ ones_front (size_of t) _ r a fits ∙ ap ones (front t q nodes back from s r a c l fits)
 
 -- what a service leaves: refused, or with its set or table at the front
 

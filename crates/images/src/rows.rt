@@ -29,7 +29,8 @@ fn row(call: &Call, x: usize) -> [u8; 256]
 {
     let s = sets::single(x);
     let last = call.query.len() / 4 - 1;
-    eval::path(call, last, false, s)
+    let mut count = 0;
+    eval::path(call, last, false, s, &mut count)
 }
 
 // All pairs of the query, row after row. A row's start is carried along by adding n, so that no product finds a place: there are

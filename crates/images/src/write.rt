@@ -34,9 +34,10 @@ pub fn image_into(
         nodes,
     };
     let last = query.len() / 4 - 1;
-    let r = engines::image(&call, whole, last, back, s);
+    let mut count = 0;
+    let r = engines::image(&call, whole, last, back, s, &mut count);
     sets::put(to, r, tree.len() / 2);
-    sets::count_of(r)
+    count
 }
 
 // All pairs of the query: the table of bits, made in an array of this function, and unpacked row after row.

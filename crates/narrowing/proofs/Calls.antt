@@ -2,10 +2,11 @@
 use Prim.Native.Nat.{ℕ, zero, suc, ◌≤◌}
 use native.Mathlib.Omega.{arith}
 use mathlib.Core.Path.{◌≡◌, refl, sym, ap, ◌∙◌}
-use mathlib.Core.Bool.{Bool, true, false, ◌&&◌}
+use mathlib.Core.Bool.{Bool, true, false, not, ◌&&◌}
 use mathlib.Core.List.{List, [], ◌∷◌}
+use lib.Dec.{eqb}
 use lib.ListN.{length, take, replicate, length-replicate}
-use Rattle.model.specs.Sets.{any, tab, memb}
+use Rattle.model.specs.Sets.{any, tab, ones, memb, image}
 use Rattle.model.specs.Tree.{size_of, tree_of}
 use Rattle.model.specs.QueryTable.{entries_of, path_at, expr_at}
 use Rattle.model.specs.Meaning.{pairs, holds}
@@ -14,6 +15,7 @@ use Rattle.model.specs.Answers.{satisfied}
 use Rattle.model.specs.Accepted.{Below}
 use Rattle.model.proofs.Bytes.{memb_tab}
 use Rattle.model.proofs.Exists.{any_cong}
+use Rattle.model.proofs.Counts.{ones_front, ones_any}
 use Rattle.sets.specs.NodeSets.{combination, combine}
 use Rattle.sets.proofs.Images.{upto_cong, image_turned}
 use Rattle.eval.specs.Evaluation.{Ready, passing, passed, reached}
@@ -97,5 +99,9 @@ module _ {t v q : List ℕ} {k : ℕ} (ok : Searchable t v q k) (left : Narrowed
       pub holds_cut : (r : Bool) → r ≡ common (size_of t) ends left.to → r ≡ satisfied t q (take k w)
       holds_cut r d = d ∙ sym held
 
-      pub holds_some : (r : Bool) → r ≡ any (size_of t) (memb ends) → left.cut ≡ false → r ≡ satisfied t q (take k w)
-      holds_some r d z = d ∙ sym (held ∙ common_all (size_of t) ends left.to (small ready_row) (some.0.uncut z))
+      pub holds_count : (count : ℕ) → count ≡ ones ends → left.cut ≡ false → not (eqb count 0) ≡ satisfied t q (take k w)
+      unfolding reached image
+      holds_count count d z =
+          ap (λ (j : ℕ). not (eqb j 0)) (d ∙ ones_front (size_of t) _ ends p (small ready_row))
+          ∙ ones_any (memb ends) (size_of t)
+          ∙ sym (held ∙ common_all (size_of t) ends left.to (small ready_row) (some.0.uncut z))

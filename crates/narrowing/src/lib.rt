@@ -29,7 +29,7 @@ pub struct Search<'a> {
 }
 
 // What is left of a query: the path at an entry, or nothing; the nodes that it starts from, and those that it may end at. `cut` says
-// whether the latter may be other than all nodes: they are read in either case, but uncut, whether a node is reached tells as well.
+// whether the latter may be other than all nodes: they are read in either case, but uncut, how many nodes are reached tells as well.
 #[derive(Clone, Copy)]
 pub struct Narrowed {
     pub entry: Option<usize>,
@@ -60,7 +60,8 @@ impl<'a> Search<'a> {
             query: self.query,
             nodes: &zeros[..self.k],
         };
-        engines::image(&call, self.whole, e, back, from)
+        let mut found = 0;
+        engines::image(&call, self.whole, e, back, from, &mut found)
     }
 
     // The nodes where a node expression holds. One evaluation.
@@ -75,7 +76,8 @@ impl<'a> Search<'a> {
             query: self.query,
             nodes: &zeros[..self.k],
         };
-        engines::node(&call, self.whole, e)
+        let mut found = 0;
+        engines::node(&call, self.whole, e, &mut found)
     }
 
     // An entry that no variable decides: where it leads is known, and nothing is left.
@@ -119,7 +121,7 @@ impl<'a> Search<'a> {
     }
 
     // The query is satisfied under a row. One evaluation of what is left of it, by whole tables where the flag is set; where the end is not
-    // cut, whether it reaches a node tells.
+    // cut, the number of nodes that it reaches tells.
     pub fn holds(&self, whole: bool, left: &Narrowed, row: [u16; 3]) -> bool
         requires { Searches self.now
             × (CoreOf self.now.tree.now self.now.query.now self.now.k left.now
@@ -136,9 +138,10 @@ impl<'a> Search<'a> {
             query: self.query,
             nodes: &row[..self.k],
         };
-        let ends = engines::image(&call, whole, e, false, left.from);
+        let mut found = 0;
+        let ends = engines::image(&call, whole, e, false, left.from, &mut found);
         if !left.cut {
-            return sets::occupied(n, ends);
+            return found != 0;
         }
         meet(n, ends, left.to)
     }

@@ -107,6 +107,15 @@ pub fn count_of(s: [u8; 256]) -> usize
     usize::from(low) + usize::from(high)
 }
 
+// Two sets combined, node by node, and how many nodes the result has.
+pub fn combined_counted(op: Operation, a: [u8; 256], b: [u8; 256], count: &mut usize) -> [u8; 256]
+    ensures { (result ≡ tab 256 (combination (operation_number op) a b)) × (count.new ≡ ones result) }
+{
+    let r = combined(op, a, b);
+    *count = count_of(r);
+    r
+}
+
 // The set that lent bytes hold.
 pub fn load(set: &[u8]) -> [u8; 256]
     requires { length set.now ≤ 256 }

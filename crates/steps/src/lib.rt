@@ -7,7 +7,7 @@
 #![tactic(auto)]
 
 ghost use Rattle.std.specs.Prelude.{◌≡◌, true, ◌*◌, ◌≤◌, ◌<◌, length, eqb};
-ghost use Rattle.model.specs.Sets.{tab, memb, upto, turn, image};
+ghost use Rattle.model.specs.Sets.{tab, ones, memb, upto, turn, image};
 ghost use Rattle.model.specs.Tree.{tree_of, size_of};
 ghost use Rattle.model.specs.Axes.{following, axis, matches, passes, steps};
 ghost use Rattle.model.specs.Numbers.{axis_number};
@@ -171,7 +171,7 @@ fn named(tree: &[u16], name: usize) -> [u8; 256]
 
 // The image under a step, by its axis and its name test, or under the step's converse: forwards the test cuts the
 // image, backwards the set. Where every node passes, nothing is cut.
-pub fn step(
+fn step_image(
     tree: &[u16],
     prev: &[u16],
     a: Axis,
@@ -194,4 +194,24 @@ pub fn step(
     }
     let m = axis_image(tree, prev, a, false, from);
     sets::combined(sets::Operation::Intersection, m, s)
+}
+
+// The image under a step or its converse, and how many nodes it has.
+pub fn step(
+    tree: &[u16],
+    prev: &[u16],
+    a: Axis,
+    name: usize,
+    back: bool,
+    from: [u8; 256],
+    count: &mut usize,
+) -> [u8; 256]
+    requires { Linked tree.now prev.now }
+    ensures { (result
+        ≡ tab 256 (image (size_of tree.now) (turn back (steps (tree_of tree.now) (axis_number a) name)) (memb from)))
+        × (count.new ≡ ones result) }
+{
+    let r = step_image(tree, prev, a, name, back, from);
+    *count = sets::count_of(r);
+    r
 }

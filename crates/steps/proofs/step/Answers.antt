@@ -1,12 +1,6 @@
 use borrow.Author.Rules.{rules}
-use Rattle.steps.proofs.Images.{step_whole, step_on, step_back}
+use Rattle.model.proofs.Counts.{ones_bytes}
 use Rattle.steps.proofs.step.Goals as goal
 
-pub returns-then-all : goal.returns-then-all
-returns-then-all c = search (step_whole, rules)
-
-pub returns-then-back : goal.returns-then-back
-returns-then-back c = rw c.if-back.true (search (step_back, rules))
-
 pub returns : goal.returns
-returns c = rw c.if-back.false (search (step_on, rules))
+returns c = search (ones_bytes, rules)

@@ -1,4 +1,4 @@
-use Rattle.narrowing.proofs.Calls.{holds_none, suits_row, holds_some, holds_cut}
+use Rattle.narrowing.proofs.Calls.{holds_none, suits_row, holds_count, holds_cut}
 use native.Mathlib.Omega.{arith}
 use Rattle.narrowing.proofs.Search.holds.Goals as goal
 
@@ -9,7 +9,7 @@ pub image-ends-requires : goal.image-ends-requires
 image-ends-requires c = suits_row c.requires.0 c.args.left.now c.requires.1.0 c.args.row (omega arith) c.requires.1.1 c.in-Some.e c.in-Some.is
 
 pub returns-then-not-left : goal.returns-then-not-left
-returns-then-not-left c = holds_some c.requires.0 c.args.left.now c.requires.1.0 c.args.row (omega arith) c.requires.1.1 c.in-Some.e c.in-Some.is _ c.image-ends.ensures _ c.occupied.ensures c.if-not-left.true
+returns-then-not-left c = holds_count c.requires.0 c.args.left.now c.requires.1.0 c.args.row (omega arith) c.requires.1.1 c.in-Some.e c.in-Some.is _ c.image-ends.ensures.0 _ c.image-ends.ensures.1 c.if-not-left.true
 
 pub returns : goal.returns
-returns c = holds_cut c.requires.0 c.args.left.now c.requires.1.0 c.args.row (omega arith) c.requires.1.1 c.in-Some.e c.in-Some.is _ c.image-ends.ensures _ c.meet-2.ensures
+returns c = holds_cut c.requires.0 c.args.left.now c.requires.1.0 c.args.row (omega arith) c.requires.1.1 c.in-Some.e c.in-Some.is _ c.image-ends.ensures.0 _ c.meet-2.ensures

@@ -5,4 +5,4 @@ pub image-requires : goal.image-requires
 image-requires c = suits_zeros c.requires
 
 pub returns : goal.returns
-returns c = always_reached _ _ _ _ c.image.ensures c.requires
+returns c = always_reached _ _ _ _ c.image.ensures.0 c.requires

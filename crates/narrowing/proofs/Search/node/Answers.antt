@@ -5,4 +5,4 @@ pub node-requires : goal.node-requires
 node-requires c = suits_zeros c.requires
 
 pub returns : goal.returns
-returns c = always_passed _ _ c.node.ensures c.requires
+returns c = always_passed _ _ c.node.ensures.0 c.requires

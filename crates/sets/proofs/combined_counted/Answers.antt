@@ -1,0 +1,6 @@
+use borrow.Author.Rules.{rules}
+use Rattle.model.proofs.Counts.{ones_bytes}
+use Rattle.sets.proofs.combined_counted.Goals as goal
+
+pub returns : goal.returns
+returns c = search (ones_bytes, rules)
