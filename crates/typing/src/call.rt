@@ -23,11 +23,6 @@ pub struct Record {
 // A buffer in which nothing is due to be written.
 pub const NOTHING: Numbers = [PATTERN; 320];
 
-fn same_reply(got: ReadReply, due: ReadReply) -> bool {
-    let refusal = (got.number == due.number) & (got.place == due.place);
-    refusal & (got.count == due.count) & (got.columns == due.columns)
-}
-
 // The reply to a text that is refused.
 pub fn refused(refusal: Refusal) -> ReadReply {
     let outcome: Result<Read, Refusal> = Err(refusal);
@@ -46,7 +41,7 @@ impl Record {
         let mut query = NOTHING;
         let got = ReadReply::from(call(lent, &mut query));
         self.counts.add_reply(got.number);
-        self.tally.expect(same_reply(got, due));
+        self.tally.expect(got == due);
         self.tally.expect(query == *table);
     }
 
