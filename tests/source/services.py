@@ -15,9 +15,10 @@ from repository import end, uncommented
 ENSURES = re.compile(r"^ +ensures(?: \w+)? \{([^{}]*)\}$", re.M)
 CLAUSE = re.compile(r"^ +(?:requires|ensures)\b", re.M)
 RESULT = "result"
-# the definitions that turn what a service returns into C's reply, or into a lent cursor at exit; none of them loses anything
-# (crates/model/proofs/Refusals.antt: told_once)
-READINGS = {"told", "told_making", "told_counting", "told_page", "told_quick", "told_read", "told_index", "opened", "cursor_after", "cursor_after_quick"}
+# the definitions that turn what a service returns into C's reply, which lose nothing (crates/model/proofs/Refusals.antt: told_once); and those
+# of a page, each of which tells a part of it: the reply, or the cursor at exit
+READINGS = {"told", "told_making", "told_counting", "told_read", "told_index", "opened"}
+HALVES = {"told_page": ("reply", "page"), "cursor_after": ("cursor", "page"), "told_quick": ("reply", "quick"), "cursor_after_quick": ("cursor", "quick")}
 
 
 def term(text):
@@ -67,8 +68,11 @@ class Contract:
             return part[0], None
         if isinstance(part, list) and len(part) == 2 and part[0] == RESULT and part[1].startswith("."):
             return RESULT, part[1][1:]
-        if isinstance(part, list) and part[0] in READINGS and part[-1] == RESULT and not any(map(self.speaks, part[:-1])):
-            return RESULT, None
+        if isinstance(part, list) and part[-1] == RESULT and not any(map(self.speaks, part[:-1])):
+            if part[0] in READINGS:
+                return RESULT, None
+            if part[0] in HALVES:
+                return RESULT, HALVES[part[0]]
         return (RESULT, None) if part == RESULT else None
 
     def speaks(self, part):
@@ -97,7 +101,8 @@ class Contract:
         settling = [(c, self.settled(c)) for text in self.ensures for c in clauses(term(text))]
         values = {value for _, some in settling for value in some}
         parts = {(RESULT, f) for f in self.fields}
-        if self.returned and (RESULT, None) not in values and not (parts and parts <= values):
+        pages = [{(RESULT, half) for half in HALVES.values() if half[1] == page} for page in ("page", "quick")]
+        if self.returned and (RESULT, None) not in values and not any(some and some <= values for some in [parts] + pages):
             yield "has no clause that gives its reply by a definition of specs/"
         for name, kind in self.parameters.items():
             if re.match(r"&('\w+ )?mut\b", kind) and (name, None) not in values:
@@ -136,13 +141,16 @@ BROKEN = [
     ("tree: &[u16]", "length result ≡ verdict (tree_checks tree.now)"),
     ("tree: &[u16]", "told result ≡ verdict (told result)"),
     ("from: &[u8], to: &mut [u8]", "ImageLeaves from.now to.old (told_counting result to.new) to.new"),
+    ("from: &[u8], to: &mut [u8]", "ImageLeaves from.now to.old (told_page result) to.new"),
+    ("from: &[u8], to: &mut [u8]", "ImageLeaves from.now to.old (cursor_after from.now result) to.new"),
+    ("from: &[u8], to: &mut [u8]", "ImageLeaves from.now to.old (told_page result) (cursor_after_quick from.now result) to.new"),
     ("from: &[u8], to: &mut [u8]", "ImageLeaves from.now to.old result to.exit"),
 ]
 SOUND = [
     ("tree: &[u16]", "result ≡ verdict (tree_checks tree.now)"),
     ("from: &[u8], to: &mut [u8]", "ImageLeaves from.now to.old result to.new"),
     ("tree: &[u16]", "told result ≡ verdict (tree_checks tree.now)"),
-    ("from: &[u8], to: &mut [u8]", "ImageLeaves from.now to.old (told_counting result) (cursor_after from.now result) to.new"),
+    ("from: &[u8], to: &mut [u8]", "ImageLeaves from.now to.old (told_page result) (cursor_after from.now result) to.new"),
     ("from: &[u8], to: &mut [u8]", "ImageLeaves from.now to.old result.number result.place to.new"),
     ("from: &[u8], to: &mut [u8]", "result ≡ image_reply from.now to.old", "to.new ≡ reply\n        from.now\n        to.old"),
 ]

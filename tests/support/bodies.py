@@ -20,7 +20,7 @@ LOOPS = {"while", "for", "loop"}
 BLOCKS = LOOPS | {"if", "else"}
 WORDS = {"as", "true", "false", "mut"}  # keywords that a value may have
 LEAVES = {"return", "break", "continue"}
-CONVERSION = re.compile(r"(?:u8|u16|u64|usize|\w*Reply)::from")  # a number or a result in another type: read as such, and no call
+CONVERSION = re.compile(r"(?:u8|u16|u64|usize|(?:Image|Index|Made|Page|Quick|Read)?Reply)::from")  # a number or a result in another type: read as such, and no call
 METHODS = {"len", "fill"}  # the methods that are read: of a slice its length, and a part of it written over
 KEYWORDS = BLOCKS | WORDS | LEAVES | {"let", "in", "match", "use", "fn", "const"}
 
@@ -58,7 +58,7 @@ def names(tokens, span):
 
 def branches(tokens):
     """A body in which each `match` that is a statement reads as the branches that its arms are. What the patterns bind is a local
-    that is given no value."""
+    whose value is what is matched."""
     for i, token in enumerate(tokens):
         if token == "match" and (i == 0 or tokens[i - 1] in "{;}"):
             head = next(j for j in range(i, len(tokens)) if tokens[j] == "{")
@@ -68,7 +68,9 @@ def branches(tokens):
                 block = tokens[arrow + 1] == "{"
                 stop = closing(tokens, arrow + 1) if block else split(tokens, (arrow + 1, end), ",")[0][1]
                 opens = ["else", "if", "true"] if new else ["if"] + tokens[i + 1 : head]
-                new += opens + ["{"] + tokens[arrow + 1 + block : stop] + ["}"]
+                bound = [n for n in tokens[at:arrow] if NAME.fullmatch(n) and n not in KEYWORDS and n != "_"]
+                given = [t for n in dict.fromkeys(bound) for t in ["let", n, "="] + tokens[i + 1 : head] + [";"]]
+                new += opens + ["{"] + given + tokens[arrow + 1 + block : stop] + ["}"]
                 at = stop + block + (tokens[stop + block : stop + block + 1] == [","]) + (not block and stop < end and tokens[stop] != ",")
             return tokens[:i] + branches(new) + branches(tokens[end + 1 :])
     return tokens

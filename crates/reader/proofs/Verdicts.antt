@@ -27,7 +27,7 @@ use Rattle.grammar.specs.Automaton.{readable, stops_at}
 use Rattle.grammar.proofs.Passing.{columns_few}
 use Rattle.grammar.proofs.Theorems.{readable_grammatical, read_reading}
 use Rattle.reader.specs.Read.{expression, typed, tag_in, query_of, entries_in, bad_length, text_checks, made_checks, read_checks, read_reply, refusal, Leaves, TableLeaves, ReadLeaves}
-use Rattle.reader.specs.Turns.{ReadsTo, reading_checks}
+use Rattle.reader.specs.Turns.{ReadsTo, typed_checks}
 use Rattle.reader.proofs.Places.{not_no}
 
 module _ (text house site : List ℕ) where
@@ -68,26 +68,26 @@ module _ (text house site : List ℕ) (buffer : List ℕ) where
   sizes = size_checks (entries_in text house site) (length buffer)
 
   -- 24 and 25
-  pub reading_refused : (e : Refusal) → refused e ≡ verdict (reading_checks text house site) → TableLeaves text house site buffer (told_read (Err e)) buffer
+  pub reading_refused : (e : Refusal) → refused e ≡ verdict (typed_checks text house site) → TableLeaves text house site buffer (told_read (Err e)) buffer
   reading_refused e p =
-      err_leaves (reading_checks text house site ++ sizes) (query_of text house site) buffer e (stop_err (reading_checks text house site) sizes e p)
+      err_leaves (typed_checks text house site ++ sizes) (query_of text house site) buffer e (stop_err (typed_checks text house site) sizes e p)
 
   module _ (b : Made) (u : Unit) (w : ReadsTo text house site (Ok u) b) where
     is_readable : readable text ≡ true
     unfolding numbered Passes
-    is_readable = not_no (readable text) (all-passed (reading_checks text house site) refl (ap (λ (x : Reply). x.number) (sym w.judged))).0
+    is_readable = not_no (readable text) (all-passed (typed_checks text house site) refl (ap (λ (x : Reply). x.number) (sym w.judged))).0
 
     -- the verdict on the entries that were counted is the one that is due
-    all_judged : (v : Reply) → v ≡ verdict (size_checks b.draft.entries (length buffer)) → v ≡ verdict (reading_checks text house site ++ sizes)
+    all_judged : (v : Reply) → v ≡ verdict (size_checks b.draft.entries (length buffer)) → v ≡ verdict (typed_checks text house site ++ sizes)
     unfolding numbered
     all_judged v p =
-        pass_ok (reading_checks text house site) sizes v
+        pass_ok (typed_checks text house site) sizes v
         (p ∙ ap (λ (n : ℕ). verdict (size_checks n (length buffer))) (w.entries is_readable) ∙ same_size (entries_in text house site) (length buffer)) w.judged refl
 
     -- 26 and 20
     pub size_refused : (e : Refusal) → refused e ≡ verdict (size_checks b.draft.entries (length buffer)) → TableLeaves text house site buffer (told_read (Err e)) buffer
     size_refused e p =
-        err_leaves (reading_checks text house site ++ sizes) (query_of text house site) buffer e (all_judged (refused e) p)
+        err_leaves (typed_checks text house site ++ sizes) (query_of text house site) buffer e (all_judged (refused e) p)
 
     module _ (fine : reply 0 0 ≡ verdict (size_checks b.draft.entries (length buffer))) where
       pub both_fit : (b.draft.entries ≤ 64) × (4 * b.draft.entries ≤ length buffer)
@@ -108,8 +108,8 @@ module _ (text house site : List ℕ) (buffer : List ℕ) where
       table_accepted after h =
           let f = all_judged (reply 0 0) fine in
           let n = few_entries.1 in (
-            replied b.draft.entries b.draft.columns n (w.columns is_readable few_entries.0) (verdict (reading_checks text house site ++ sizes)) (sym f),
-            written_over (reply 0 0) (verdict (reading_checks text house site ++ sizes)) (table_of (query_of text house site)) buffer after (4 * b.draft.entries)
+            replied b.draft.entries b.draft.columns n (w.columns is_readable few_entries.0) (verdict (typed_checks text house site ++ sizes)) (sym f),
+            written_over (reply 0 0) (verdict (typed_checks text house site ++ sizes)) (table_of (query_of text house site)) buffer after (4 * b.draft.entries)
                 (h ∙ ap (λ (i : ℕ). take (4 * i) b.table ++ drop (4 * b.draft.entries) buffer) n ∙ ap (λ (l : List ℕ). l ++ drop (4 * b.draft.entries) buffer) (w.front is_readable few_entries.0))
                 f
                 refl

@@ -111,13 +111,13 @@ pub record Finished (text house site : List ℕ) (p : Progress) (stack : List �
   pub wrote : Wrote (end_items p.focus (stack_of stack p.depth) p.axis (sought_at text house site p true).tag) b b'
 
 -- the checks of a text and its names: 24 and 25
-abbrev pub reading_checks : List ℕ → List ℕ → List ℕ → List Check
-reading_checks text house site =
+abbrev pub typed_checks : List ℕ → List ℕ → List ℕ → List Check
+typed_checks text house site =
     place_checks (stops_at text) (readable text) (unknown_place house site (names_in 0 (typed text))) (any_unknown house site (names_in 0 (typed text)))
 
 -- what has been read when the text was read to its end, or no further
 pub record ReadsTo (text house site : List ℕ) (r : Result Unit Refusal) (b : Made) : Type 0 where
-  pub judged : told r ≡ verdict (reading_checks text house site)
+  pub judged : told r ≡ verdict (typed_checks text house site)
   -- the number of entries, more than 64 counted as 65, the variables, and the table
   pub entries : readable text ≡ true → b.draft.entries ≡ counted (entries_in text house site)
   pub columns : readable text ≡ true → entries_in text house site ≤ 64 → b.draft.columns ≡ columns_of (query_of text house site)
