@@ -39,8 +39,8 @@
  *
  * Stack. gz_check_tree, gz_check_query and gz_name take less than 1 KiB; gz_seen, gz_index, gz_descendants, gz_pack, gz_unpack and gz_read,
  * however deep its text nests, take less than 4 KiB. gz_reverse takes less than 32 KiB for every query; the worst shape that was measured,
- * of 64 levels, takes 28,384 bytes. gz_pairs_bits takes less than 56 KiB for every query, so that its stack and a relation of 256 nodes in
- * bits, 8 KiB, take less than the 64 KiB of one in bytes; the worst shape that was measured takes 54,160 bytes, a run of steps, however it
+ * of 64 levels, takes 4,768 bytes. gz_pairs_bits takes less than 56 KiB for every query, so that its stack and a relation of 256 nodes in
+ * bits, 8 KiB, take less than the 64 KiB of one in bytes; the worst shape that was measured takes 46,024 bytes, a run of steps, however it
  * is grouped, less than 18 KiB, and a step less than 6 KiB. gz_pairs takes 8 KiB more, less than 64 KiB for every query. The others take
  * less than 70 KiB for every query in which intersects, excepts, stars and sames nest (gz_forwards says when), and for the others by their
  * levels (section 3): of one level gz_forwards and gz_backwards take less than 9 KiB, gz_quick_page 13 and gz_page 14, and all less than 4
