@@ -15,8 +15,9 @@ from repository import end, uncommented
 ENSURES = re.compile(r"^ +ensures(?: \w+)? \{([^{}]*)\}$", re.M)
 CLAUSE = re.compile(r"^ +(?:requires|ensures)\b", re.M)
 RESULT = "result"
-# the definitions that turn what a service returns into C's reply, which lose nothing (crates/model/proofs/Refusals.antt: told_once); and those
-# of a page, each of which tells a part of it: the reply, or the cursor at exit
+# the definitions that turn what a service returns into C's reply, which lose nothing: `told` by the law told_once in
+# crates/model/proofs/Refusals.antt, the others by a count or a table beside it; and those of a page, each of which tells a part of it, the
+# reply or the cursor at exit
 READINGS = {"told", "told_making", "told_counting", "told_read", "told_index", "opened"}
 HALVES = {"told_page": ("reply", "page"), "cursor_after": ("cursor", "page"), "told_quick": ("reply", "quick"), "cursor_after_quick": ("cursor", "quick")}
 
