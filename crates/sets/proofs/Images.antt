@@ -3,10 +3,10 @@ use Prim.Native.Nat.{ℕ, zero, suc, ◌+◌, ◌-◌, ◌≤◌, ◌<◌}
 use native.Mathlib.Omega.{arith}
 use native.Mathlib.Nat.{zero-add}
 use mathlib.Core.Path.{◌≡◌, refl, sym, ap, ◌∙◌}
-use mathlib.Core.Bool.{Bool, true, false, ◌&&◌, ◌||◌, and_comm, and_assoc}
+use mathlib.Core.Bool.{Bool, true, false, not, ◌&&◌, ◌||◌, and_comm, and_assoc}
 use mathlib.Core.Logic.{⊎_elim}
-use mathlib.Core.List.{List, ◌++◌}
-use lib.ListN.{length, get_or, take, drop, replicate, length-replicate, get_or-replicate}
+use mathlib.Core.List.{List, [], ◌∷◌, ◌++◌}
+use lib.ListN.{length, get_or, get_or-eq_default, take, drop, replicate, length-replicate, get_or-replicate}
 use lib.Dec.{ltb, eqb}
 use borrow.Author.Tests.{ltb-true, lt-ltb, le-ltb, eqb-true}
 use Rattle.std.proofs.lemmas.Grind.{common_steps}
@@ -47,6 +47,11 @@ filled b n m v p h e z q = rw (e, z) (tab_of 256 (λ k. ltb k n && b) (replicate
         (lt_or_le i n)
 
 -- combining at one node
+
+-- the third way
+pub combine_else : (op : ℕ) (a b : Bool) → (op ≡ 0 → ⊥) → (op ≡ 1 → ⊥) → (a && not b) ≡ combine op a b
+unfolding combine
+combine_else op a b p q = sym (get_or-eq_default ((a || b) ∷ (a && b) ∷ []) (a && not b) (let h : 2 ≤ op = omega arith in h))
 
 -- every way keeps a bound
 pub combine_within : (op : ℕ) (c a b : Bool) → combine op (c && a) (c && b) ≡ (c && combine op a b)

@@ -3,7 +3,7 @@
 // vector code.
 #![tactic(auto)]
 
-ghost use Rattle.std.specs.Prelude.{◌≡◌, true, ◌++◌, ◌≤◌, ◌<◌, length, drop};
+ghost use Rattle.std.specs.Prelude.{◌≡◌, Bool, true, ◌++◌, ◌≤◌, ◌<◌, length, drop};
 ghost use Rattle.model.specs.Sets.{any, bit, tab, ones, memb, upto};
 ghost use Rattle.sets.specs.NodeSets.{always, only, operation_number, combine, combination, shifted};
 
@@ -13,6 +13,20 @@ pub enum Operation {
     Union,
     Intersection,
     Difference,
+}
+
+// The operation of a number: 0 union, 1 intersection, and any other difference, as the definition `combine` has it of every number.
+impl From<u8> for Operation {
+    ghost from_gives = { λ number op. (x y : Bool) → combine (operation_number op) x y ≡ combine number x y };
+
+    #[tactic(auto, using(crate::proofs::Images::combine_else), unfolding(crate::specs::NodeSets::combine))]
+    fn from(number: u8) -> Operation {
+        match number {
+            0 => Operation::Union,
+            1 => Operation::Intersection,
+            _ => Operation::Difference,
+        }
+    }
 }
 
 // A test as a byte.
