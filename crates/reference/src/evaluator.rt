@@ -1,7 +1,7 @@
 // For each entry of a query the table of all its pairs, each pair by its definition from the tables of the operands. A node
 // expression is the pairs (x, x) of the nodes x where it holds. A closure is found by a search from each node. A query of e entries over n
 // nodes costs at most e × n × n × n.
-use super::query::{ANY_NODE, Entry, Query, STAR};
+use super::query::{ANY_NODE, Entry, Query, STAR, axis_of};
 use super::tree::{DOCUMENT, Tree};
 use harness::table;
 use model::{Axis, Kind};
@@ -150,7 +150,7 @@ fn passes(test: usize, tag: usize) -> bool {
 
 // The pair (x, y) is in a step.
 fn is_step(tree: &Tree, f: Entry, x: usize, y: usize) -> bool {
-    match Axis::from_number(f.left) {
+    match axis_of(f.left) {
         Some(axis) => passes(f.tag, tree.tag(y)) && on_axis(tree, axis, x, y),
         None => false,
     }

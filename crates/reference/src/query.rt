@@ -7,6 +7,89 @@ pub const ANY_NODE: usize = 65534;
 
 pub const STAR: usize = 65535;
 
+// The kind of a number. Those of kinds and axes are written out from the document (docs/REFERENCE.md, "The query table" and "Axes"), and
+// go by no conversion of `model`, so that a wrong number there shows.
+pub fn kind_of(number: usize) -> Option<Kind> {
+    match number {
+        0 => Some(Kind::Step),
+        1 => Some(Kind::Compose),
+        2 => Some(Kind::Union),
+        3 => Some(Kind::Intersect),
+        4 => Some(Kind::Except),
+        5 => Some(Kind::Filter),
+        6 => Some(Kind::Variable),
+        7 => Some(Kind::Root),
+        8 => Some(Kind::Exists),
+        9 => Some(Kind::Not),
+        10 => Some(Kind::And),
+        11 => Some(Kind::Or),
+        12 => Some(Kind::Is),
+        13 => Some(Kind::Star),
+        14 => Some(Kind::Same),
+        _ => None,
+    }
+}
+
+// And its number.
+pub fn kind_number(kind: Kind) -> usize {
+    match kind {
+        Kind::Step => 0,
+        Kind::Compose => 1,
+        Kind::Union => 2,
+        Kind::Intersect => 3,
+        Kind::Except => 4,
+        Kind::Filter => 5,
+        Kind::Variable => 6,
+        Kind::Root => 7,
+        Kind::Exists => 8,
+        Kind::Not => 9,
+        Kind::And => 10,
+        Kind::Or => 11,
+        Kind::Is => 12,
+        Kind::Star => 13,
+        Kind::Same => 14,
+    }
+}
+
+// The axis of a number.
+pub fn axis_of(number: usize) -> Option<Axis> {
+    match number {
+        0 => Some(Axis::Itself),
+        1 => Some(Axis::Child),
+        2 => Some(Axis::Parent),
+        3 => Some(Axis::Right),
+        4 => Some(Axis::Left),
+        5 => Some(Axis::Descendant),
+        6 => Some(Axis::Ancestor),
+        7 => Some(Axis::Following),
+        8 => Some(Axis::Preceding),
+        9 => Some(Axis::FollowingSibling),
+        10 => Some(Axis::PrecedingSibling),
+        11 => Some(Axis::DescendantOrSelf),
+        12 => Some(Axis::AncestorOrSelf),
+        _ => None,
+    }
+}
+
+// And its number.
+pub fn axis_number(axis: Axis) -> usize {
+    match axis {
+        Axis::Itself => 0,
+        Axis::Child => 1,
+        Axis::Parent => 2,
+        Axis::Right => 3,
+        Axis::Left => 4,
+        Axis::Descendant => 5,
+        Axis::Ancestor => 6,
+        Axis::Following => 7,
+        Axis::Preceding => 8,
+        Axis::FollowingSibling => 9,
+        Axis::PrecedingSibling => 10,
+        Axis::DescendantOrSelf => 11,
+        Axis::AncestorOrSelf => 12,
+    }
+}
+
 #[derive(Clone, Copy)]
 pub struct Entry {
     pub kind: Kind,
@@ -55,7 +138,7 @@ impl Entry {
     pub fn step(axis: Axis, test: usize) -> Entry {
         Entry {
             kind: Kind::Step,
-            left: axis as usize,
+            left: axis_number(axis),
             right: 0,
             tag: test,
         }
@@ -133,7 +216,7 @@ impl Query {
     pub fn entry(&self, e: usize) -> Entry {
         let at = e.wrapping_mul(4);
         Entry {
-            kind: Kind::from_number(self.table.at(at)).unwrap_or(Kind::Step),
+            kind: kind_of(self.table.at(at)).unwrap_or(Kind::Step),
             left: self.table.at(at.wrapping_add(1)),
             right: self.table.at(at.wrapping_add(2)),
             tag: self.table.at(at.wrapping_add(3)),
@@ -143,7 +226,7 @@ impl Query {
     // Writes entry e.
     pub fn put(&mut self, e: usize, f: Entry) {
         let at = e.wrapping_mul(4);
-        self.table.put(at, f.kind as usize);
+        self.table.put(at, kind_number(f.kind));
         self.table.put(at.wrapping_add(1), f.left);
         self.table.put(at.wrapping_add(2), f.right);
         self.table.put(at.wrapping_add(3), f.tag);

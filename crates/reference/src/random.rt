@@ -1,5 +1,7 @@
 // Trees, queries, assignments and node sets from a seed. Each is accepted by the way it is made.
-use super::query::{ANY_NODE, Entry, Query, STAR, Sort, left_of, right_of, sort_of};
+use super::query::{
+    ANY_NODE, Entry, Query, STAR, Sort, axis_of, kind_of, left_of, right_of, sort_of,
+};
 use super::tree::{DOCUMENT, Tree};
 use harness::line::Line;
 use harness::table;
@@ -55,12 +57,12 @@ impl Seed {
 
     // Any axis.
     pub fn axis(&mut self) -> Axis {
-        Axis::from_number(self.below(13)).unwrap_or(Axis::Itself)
+        axis_of(self.below(13)).unwrap_or(Axis::Itself)
     }
 
     // Child, parent, right or left.
     pub fn near_axis(&mut self) -> Axis {
-        Axis::from_number(self.between(1, 4)).unwrap_or(Axis::Itself)
+        axis_of(self.between(1, 4)).unwrap_or(Axis::Itself)
     }
 
     // Two operands in either order.
@@ -252,7 +254,7 @@ fn any_kind(seed: &mut Seed) -> Kind {
     match seed.below(17) {
         15 => Kind::Star,
         16 => Kind::Same,
-        k => Kind::from_number(k).unwrap_or(Kind::Step),
+        k => kind_of(k).unwrap_or(Kind::Step),
     }
 }
 

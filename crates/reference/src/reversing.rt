@@ -1,6 +1,6 @@
 // The query turned round, straight from document 02, §10. No entry is an operand twice, so that each has one part of the new table: how
 // long the parts are is found from the front of the query on, and where they begin from its end back, which also says what stands there.
-use super::query::{ANY_NODE, Entry, Query, left_of, right_of};
+use super::query::{ANY_NODE, Entry, Query, axis_of, left_of, right_of};
 use harness::table;
 use model::{Axis, Kind};
 
@@ -149,7 +149,7 @@ impl Laying {
 
     // self::TEST/CONVERSE::node()
     fn lay_step(&mut self, f: Entry, start: usize) {
-        let axis = Axis::from_number(converse(f.left)).unwrap_or(Axis::Itself);
+        let axis = axis_of(converse(f.left)).unwrap_or(Axis::Itself);
         self.put(start, Entry::step(Axis::Itself, f.tag));
         self.put_any(plus(start, 1), axis);
         self.put_over(plus(start, 2), Kind::Compose, plus(start, 1));

@@ -3,7 +3,7 @@
 // made anew, a few times. Where asked for, each is made so that it keeps the rule of quick pages.
 use super::evaluator::Pairs;
 use super::listing::{self, Answers};
-use super::query::{Entry, Query};
+use super::query::{Entry, Query, kind_number};
 use super::random::{Seed, go_on, make_both, step};
 use super::tree::Tree;
 use super::{keeping, owning, rule};
@@ -145,7 +145,7 @@ pub fn make(
 fn meet_entries(tally: &mut Tally, query: &Query) {
     for e in 0..query.entries() {
         let f = query.entry(e);
-        tally.meet(Sum::Kinds, f.kind as usize);
+        tally.meet(Sum::Kinds, kind_number(f.kind));
         if f.kind == Kind::Step {
             tally.meet(Sum::Axes, f.left);
         }
@@ -167,7 +167,7 @@ fn sum_of(a: Answers) -> Sum {
 // rule the kind of the lowest entry that does is met.
 fn count_rule(tally: &mut Tally, query: &Query, a: Answers) {
     match rule::lowest(query) {
-        Some(place) => tally.meet(Sum::Breaking, query.entry(place).kind as usize),
+        Some(place) => tally.meet(Sum::Breaking, kind_number(query.entry(place).kind)),
         None => tally.count(Sum::Kept, (1 < a.space.columns) & a.have_gaps()),
     }
 }

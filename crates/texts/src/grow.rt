@@ -7,7 +7,7 @@ use chart::words::{Symbol, spelling, word};
 use harness::sums::bit;
 use harness::table;
 use model::{Axis, Kind};
-use reference::query::{ANY_NODE, Entry, STAR, right_of};
+use reference::query::{ANY_NODE, Entry, STAR, axis_number, kind_number, right_of};
 use reference::random::Seed;
 
 // Room for a query table, and more.
@@ -22,7 +22,7 @@ const DEPTH: usize = 1024;
 // A text as far as it is made: its bytes; the table that is due, how many entries that has and how many variables; where the first
 // unknown name starts; the words and the names that it holds, bit k for number k; the two stacks with their heights; and how many
 // choices are left until all is made as short as can be.
-#[derive(Drop)]
+#[derive(Clone, Copy)]
 pub struct Made<'a> {
     pub text: Text,
     pub due: Numbers,
@@ -63,7 +63,7 @@ impl<'a> Made<'a> {
     fn append(&mut self, taken: usize, f: Entry) {
         let e = self.entries;
         if e < 64 {
-            self.due[4 * e] = table::narrow(f.kind as usize);
+            self.due[4 * e] = table::narrow(kind_number(f.kind));
             self.due[4 * e + 1] = table::narrow(f.left);
             self.due[4 * e + 2] = table::narrow(f.right);
             self.due[4 * e + 3] = table::narrow(f.tag);
@@ -118,7 +118,7 @@ impl<'a> Made<'a> {
     // A step along any axis: with a name, half as often with the star, and as often with `node()`.
     fn any_step(&mut self, seed: &mut Seed) {
         let axis = seed.axis();
-        self.write(word(axis as usize));
+        self.write(word(axis_number(axis)));
         self.write(Symbol::DoubleColon);
         match seed.below(4) {
             0 => self.tested(axis, Symbol::Star, STAR),

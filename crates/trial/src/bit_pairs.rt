@@ -1,6 +1,7 @@
 // Pairs in bits: each call is compared with the reply that is due, and the buffer, which is filled with a pattern, with the words
 // that are due.
 use super::call::Lent;
+use harness::due;
 use harness::line::Line;
 use harness::table::{Cells, Words};
 use harness::tally::Tally;
@@ -13,7 +14,7 @@ pub const PATTERN: u64 = 506381209866536711;
 
 // Compares what a service told with what is due.
 pub fn expect(tally: &mut Tally, got: Result<(), Refusal>, due: Result<(), Refusal>) {
-    tally.expect_reply(Reply::from(got), Reply::from(due));
+    tally.expect_reply(Reply::from(got), due::told(due));
 }
 
 // A call with so many variables, and room for so many words.

@@ -1,11 +1,13 @@
 // The making of an index: each call is compared with the reply that is due, and both buffers with the numbers that are due, those
 // behind the result with what they held.
+use harness::due;
 use harness::line::Line;
 use harness::shared::Shared;
 use harness::table::Rows;
 use harness::tally::Tally;
 use index::IndexReply;
-use model::Reply;
+use model::{Refusal, Reply};
+use reference::indexing::Made;
 
 // What fills the buffers before a call: in that of the index a number that is no node and does not stand for none, in that of the
 // tags one that is no tag, no node and no count.
@@ -25,6 +27,27 @@ fn reply_of(told: &IndexReply) -> Reply {
     Reply {
         number: told.number,
         place: told.place,
+    }
+}
+
+// The reply that is due to the making of an index.
+pub fn reply(outcome: Result<Made, Refusal>) -> IndexReply {
+    match outcome {
+        Ok(Made { next, tags }) => IndexReply {
+            number: 0,
+            place: 0,
+            next,
+            tags,
+        },
+        Err(refusal) => {
+            let Reply { number, place } = due::reply(refusal);
+            IndexReply {
+                number,
+                place,
+                next: 0,
+                tags: 0,
+            }
+        }
     }
 }
 

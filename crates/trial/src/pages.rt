@@ -1,5 +1,6 @@
 // Pages: each call is compared with the reply, the rows and the cursor that are due, and the buffer beyond the rows with
 // what it held; a quick page also with the evaluations that are due, and with the most that document 02 allows.
+use harness::due;
 use harness::line::Line;
 use harness::shared::Shared;
 use harness::table::Rows;
@@ -44,8 +45,14 @@ pub struct After<'a> {
 
 // A refusal as the reply that is due.
 pub fn refusal(refusal: Refusal) -> QuickReply {
-    let due: Result<QuickPage, Refusal> = Err(refusal);
-    QuickReply::from(due)
+    let Reply { number, place } = due::reply(refusal);
+    QuickReply {
+        number,
+        place,
+        count: 0,
+        more: false,
+        evaluations: 0,
+    }
 }
 
 // A page in one of the two ways; one row by row does not tell its evaluations.

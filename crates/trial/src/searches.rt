@@ -2,12 +2,12 @@
 // whose index is made by looking at every node, and whose searches climb from every node.
 use super::indexes::{NEXT_PATTERN, Rooms, TAGS_PATTERN};
 use super::{call, indexes, lookups};
+use harness::due;
 use harness::line::Line;
 use harness::shared::Shared;
 use harness::table::Table;
 use harness::tally::{Sum, Tally};
-use index::{IndexReply, Indexed};
-use model::{ImageReply, Refusal};
+use model::Refusal;
 use reference::random::Seed;
 use reference::tagging::Aim;
 use reference::tree::Tree;
@@ -42,21 +42,8 @@ impl<'a> Sought<'a> {
         let mut next = [NEXT_PATTERN; 1024];
         let mut tags = [TAGS_PATTERN; 1024];
         let made = indexing::make_due(self.tree, rooms.next, rooms.tags, &mut next, &mut tags);
-        let due: Result<Indexed, Refusal> = match made {
-            Ok(made) => Ok(Indexed {
-                next: made.next,
-                tags: made.tags,
-            }),
-            Err(refusal) => Err(refusal),
-        };
-        indexes::compare(
-            tally,
-            self.shared,
-            rooms,
-            &IndexReply::from(due),
-            &next,
-            &tags,
-        );
+        let due = indexes::reply(made);
+        indexes::compare(tally, self.shared, rooms, &due, &next, &tags);
     }
 
     // A damaged table is refused whatever the rooms are, and nothing is written.
@@ -67,12 +54,11 @@ impl<'a> Sought<'a> {
             next: maybe_short(seed, self.tree.size()),
             tags: maybe_short(seed, length),
         };
-        let due: Result<Indexed, Refusal> = Err(refusal);
         indexes::compare(
             tally,
             &other,
             rooms,
-            &IndexReply::from(due),
+            &indexes::reply(Err(refusal)),
             &[NEXT_PATTERN; 1024],
             &[TAGS_PATTERN; 1024],
         );
@@ -136,7 +122,7 @@ impl<'a> Sought<'a> {
             start: a.start,
             tag: a.tag,
             room,
-            due: ImageReply::from(found),
+            due: due::counted(found),
         };
         lookups::compare(tally, self.shared, &other, c, &due);
     }
@@ -165,7 +151,7 @@ impl<'a> Sought<'a> {
             start,
             tag: a.tag,
             room,
-            due: ImageReply::from(found),
+            due: due::counted(found),
         };
         lookups::compare(tally, self.shared, &other, c, &due);
     }
@@ -181,7 +167,7 @@ impl<'a> Sought<'a> {
             start: maybe_beyond(seed, a.start, n),
             tag: a.tag,
             room: maybe_short(seed, n),
-            due: ImageReply::from(refused),
+            due: due::counted(refused),
         };
         lookups::compare(tally, &other, &other_next, c, &[call::PATTERN; 512]);
     }

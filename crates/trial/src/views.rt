@@ -1,6 +1,7 @@
 // The tree that a party sees: each call is compared with the reply and the count that are due, and the buffer with the numbers that are
 // due, those behind the tree with what they held.
 use super::{call, pages, searches};
+use harness::due;
 use harness::line::Line;
 use harness::shared::Shared;
 use harness::table::{Table, copy};
@@ -53,11 +54,11 @@ pub fn compare_rooms(tally: &mut Tally, seed: &mut Seed, shared: &Shared, tree: 
         tally,
         shared,
         needed.wrapping_sub(1),
-        Reply::from(Refusal::Room),
+        due::reply(Refusal::Room),
     );
     let refusal = damage::in_shared(seed, &mut other);
     let room = searches::maybe_short(seed, needed);
-    refuse(tally, &other, room, Reply::from(refusal));
+    refuse(tally, &other, room, due::reply(refusal));
 }
 
 // yields NUMBER PLACE | ROOM | TABLE

@@ -1,5 +1,6 @@
 // Calls of reverse, each with a buffer that is filled with a pattern: the reply with its count, and every number of the buffer, are
 // compared with what is due.
+use harness::due;
 use harness::line::Line;
 use harness::shared::Shared;
 use harness::table::{Rows, copy, front};
@@ -38,8 +39,7 @@ fn compare(tally: &mut Tally, c: Call, due: ImageReply, numbers: &[u16]) {
 
 // A call that is refused.
 fn refuse(tally: &mut Tally, c: Call, refusal: Refusal) {
-    let due: Result<usize, Refusal> = Err(refusal);
-    compare(tally, c, ImageReply::from(due), &[]);
+    compare(tally, c, due::counted(Err(refusal)), &[]);
 }
 
 // What is due to a query that is accepted, where its reversed query has the table that is due.
@@ -62,7 +62,7 @@ fn compare_room(tally: &mut Tally, call: Call, room: usize, table: &[u16]) {
     };
     let due = due_for(table, c.room);
     let written = if due.is_ok() { table } else { &[] };
-    compare(tally, c, ImageReply::from(due), written);
+    compare(tally, c, due::counted(due), written);
 }
 
 // Buffers that are exactly long enough, one number too short, too short by any number of them, and of any length.

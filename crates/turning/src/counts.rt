@@ -2,7 +2,7 @@
 use harness::sums::{Sums, bit};
 use harness::tally::{Tally, show_number};
 use model::Kind;
-use reference::query::Query;
+use reference::query::{Query, kind_number};
 
 #[derive(Clone, Copy)]
 enum Sum {
@@ -52,7 +52,8 @@ impl Counts {
         }
         for e in 0..query.entries() {
             let f = query.entry(e);
-            self.sums.meet(Sum::Kinds as usize, bit(f.kind as usize));
+            self.sums
+                .meet(Sum::Kinds as usize, bit(kind_number(f.kind)));
             if f.kind == Kind::Step {
                 self.sums.meet(Sum::Axes as usize, bit(f.left));
             }

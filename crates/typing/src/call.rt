@@ -1,7 +1,8 @@
 // Calls of the reader, each with a buffer that is filled with a pattern: reply and buffer are compared with what is due.
 use super::counts::Counts;
+use harness::due;
 use harness::tally::Tally;
-use model::{Read, ReadReply, Refusal};
+use model::{Read, ReadReply, Refusal, Reply};
 use texts::grow::{Numbers, PATTERN};
 
 // What a call is lent: the text, both vocabularies, and how much of a buffer.
@@ -25,8 +26,23 @@ pub const NOTHING: Numbers = [PATTERN; 320];
 
 // The reply to a text that is refused.
 pub fn refused(refusal: Refusal) -> ReadReply {
-    let outcome: Result<Read, Refusal> = Err(refusal);
-    ReadReply::from(outcome)
+    let Reply { number, place } = due::reply(refusal);
+    ReadReply {
+        number,
+        place,
+        count: 0,
+        columns: 0,
+    }
+}
+
+// And to one that is read.
+pub fn accepted(read: Read) -> ReadReply {
+    ReadReply {
+        number: 0,
+        place: 0,
+        count: read.count,
+        columns: read.columns,
+    }
 }
 
 // Lends the front of the buffer, or all of it where that is less.

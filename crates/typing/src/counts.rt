@@ -4,6 +4,7 @@ use chart::words::Symbol;
 use harness::sums::{Sums, bit};
 use harness::tally::{Tally, show_number};
 use model::Kind;
+use reference::query::{kind_number, kind_of};
 
 // What is summed up beside the replies.
 #[derive(Clone, Copy)]
@@ -68,7 +69,9 @@ fn wanted(kind: Kind, side: Side) -> u64 {
 
 // The place of the sum of an operand.
 fn place(kind: Kind, side: Side) -> usize {
-    (kind as usize).wrapping_mul(2).wrapping_add(side as usize)
+    kind_number(kind)
+        .wrapping_mul(2)
+        .wrapping_add(side as usize)
 }
 
 impl Counts {
@@ -141,7 +144,7 @@ impl Counts {
     // texts no fewer than one of so many was refused inside, and one of so many at its end and not at all.
     pub fn expect_all(&self, tally: &mut Tally, inside: usize, others: usize) {
         for number in 0..15 {
-            if let Some(kind) = Kind::from_number(number) {
+            if let Some(kind) = kind_of(number) {
                 self.expect_operand(tally, kind, Side::Left);
                 self.expect_operand(tally, kind, Side::Right);
             }

@@ -1,12 +1,13 @@
 // Random typed queries: each is read, then cut at every place, and then damaged. The chart tells what is due where the text is
 // no longer the one that was made.
-use super::call::{Lent, Record, refused};
+use super::call::{Lent, Record, accepted};
 use super::counts::{Side, Sum};
 use chart::Verdicts;
 use harness::line::Line;
 use harness::sums::bit;
 use harness::table::{at, front, narrow};
-use model::{Kind, Read, ReadReply, Refusal};
+use model::{Kind, Read, Refusal};
+use reference::query::kind_of;
 use reference::random::Seed;
 use texts::grow::{self, Made, Numbers};
 use texts::text::Text;
@@ -134,7 +135,7 @@ impl Record {
         let left = usize::from(at(numbers, place.wrapping_add(1)));
         let right = usize::from(at(numbers, place.wrapping_add(2)));
         self.counts.meet(Sum::Kinds, bit(number));
-        match Kind::from_number(number) {
+        match kind_of(number) {
             Some(Kind::Step) => self.counts.meet(Sum::Axes, bit(left)),
             Some(kind) => {
                 self.counts
@@ -155,8 +156,7 @@ impl Record {
                 for e in 0..m.entries {
                     self.meet_entry(&m.due, e);
                 }
-                let outcome: Result<Read, Refusal> = Ok(read);
-                self.compare(lent, ReadReply::from(outcome), &m.due);
+                self.compare(lent, accepted(read), &m.due);
             }
             Err(refusal) => self.compare_refused(lent, refusal),
         }
