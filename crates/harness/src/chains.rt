@@ -1,9 +1,9 @@
 // Tables that are too long to be written in a line: chains of nodes and of entries.
 use super::{line, table};
 
-// COUNT AT VALUE: only the first numbers of a table, and one of them another.
+// COUNT AT VALUE: only the first numbers of a table, none where COUNT has more than 16 bits, and one of them another.
 fn damage(line: &line::Line, numbers: &mut table::Table) {
-    numbers.set_length(line.number(1, 0));
+    numbers.set_length(usize::from(table::narrow(line.number(1, 0))));
     numbers.put(line.number(1, 1), line.number(1, 2));
 }
 

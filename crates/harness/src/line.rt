@@ -38,7 +38,7 @@ fn shifted(value: usize, digit: u8) -> usize {
 }
 
 impl Line {
-    // Reads a line.
+    // Reads a line up to the newline that ends it. A last line without one has not ended, and its last part has no number.
     pub fn read(text: &[u8]) -> Line {
         let mut line = Line {
             ends: [0; PARTS],
@@ -56,11 +56,13 @@ impl Line {
                     reading.open = Some(shifted(value, digit - b'0'));
                 }
                 b'|' => line.part(&mut reading),
-                b'#' => break,
+                b'#' | b'\n' => {
+                    line.part(&mut reading);
+                    break;
+                }
                 _ => line.close(&mut reading),
             }
         }
-        line.part(&mut reading);
         line
     }
 
@@ -80,26 +82,24 @@ impl Line {
         reading.part = reading.part.wrapping_add(1);
     }
 
-    // The numbers of a part.
-    pub fn numbers(&self, part: usize) -> &[usize] {
-        let end = table::at(&self.ends, part).min(NUMBERS);
-        let before = if part == 0 {
+    // Where a part starts: behind the one before, or with the line where that is missing too.
+    fn start(&self, part: usize) -> usize {
+        if part == 0 {
             0
         } else {
             table::at(&self.ends, part - 1)
-        };
-        let start = before.min(end);
-        &self.numbers[start..end]
+        }
     }
 
-    // How many numbers a part has.
+    // How many numbers a part has, with those for which the line has no room.
     pub fn length(&self, part: usize) -> usize {
-        self.numbers(part).len()
+        table::at(&self.ends, part).saturating_sub(self.start(part))
     }
 
-    // Number k of a part; 0 where the part has no such number.
+    // Number k of a part. The numbers of a line go on from part to part: a part that is too short takes the next part's, and 0 behind
+    // the last.
     pub fn number(&self, part: usize, k: usize) -> usize {
-        table::at(self.numbers(part), k)
+        table::at(&self.numbers, self.start(part).wrapping_add(k))
     }
 
     // A part as SOME OF.
@@ -112,20 +112,33 @@ impl Line {
 
     // A part as a table.
     pub fn table(&self, part: usize) -> table::Table {
-        table::Table::from_list(self.numbers(part))
+        let mut table = table::Table::new();
+        self.copy_table(part, &mut table);
+        table
     }
 
-    // Writes a part to the front of a buffer.
+    // Puts a part in place of the numbers of a table. What is no number of a table leaves there what the table held before.
+    pub fn copy_table<const N: usize>(&self, part: usize, to: &mut table::Numbers<N>) {
+        let length = self.length(part);
+        to.set_length(length);
+        for k in 0..length {
+            to.put(k, self.number(part, k));
+        }
+    }
+
+    // Writes a part to the front of a buffer, but for what is no byte.
     pub fn copy_bytes(&self, part: usize, to: &mut [u8]) {
-        for (place, x) in to.iter_mut().zip(self.numbers(part)) {
-            *place = table::byte(*x);
+        for (k, place) in to.iter_mut().enumerate().take(self.length(part)) {
+            if let Ok(byte) = u8::try_from(self.number(part, k)) {
+                *place = byte;
+            }
         }
     }
 
     // Writes a part to the front of a buffer for numbers of tables.
     pub fn copy_numbers(&self, part: usize, to: &mut [u16]) {
-        for (place, x) in to.iter_mut().zip(self.numbers(part)) {
-            *place = table::narrow(*x);
+        for (k, place) in to.iter_mut().enumerate().take(self.length(part)) {
+            *place = table::narrow(self.number(part, k));
         }
     }
 

@@ -1,6 +1,9 @@
 // Tree tables as they are lent: three numbers a node, and the party that asks.
 use super::table;
 
+// What stands for the party where each of the two is to ask in turn.
+pub const EACH: u16 = 9;
+
 // The numbers, and the party; none where each of the two is to ask in turn.
 #[derive(Clone, Copy)]
 pub struct Shared {
@@ -9,25 +12,18 @@ pub struct Shared {
 }
 
 impl Shared {
-    // No node, and no party yet.
+    // No node, and 0 for the party, which is none of the two.
     pub fn new() -> Shared {
         Shared {
             table: table::Numbers::<1536>::new(),
-            party: None,
-        }
-    }
-
-    // The numbers of a list, three a node, for a party.
-    pub fn from_list(list: &[usize], party: usize) -> Shared {
-        Shared {
-            table: table::Numbers::<1536>::from_list(list),
-            party: Some(table::narrow(party)),
+            party: Some(0),
         }
     }
 
     // A table of two numbers a node as a shared one, in which every node is common and each party asks.
     pub fn common(tree: &table::Table) -> Shared {
         let mut shared = Shared::new();
+        shared.party = None;
         for node in tree.numbers().chunks(2) {
             for x in node {
                 shared.table.push(usize::from(*x));
@@ -39,13 +35,16 @@ impl Shared {
         shared
     }
 
-    // The party that asks; the first where each is to.
+    // The party that asks, as a call is given it; EACH, which is no party, where each is to.
     pub fn party(&self) -> u16 {
-        self.party.unwrap_or(1)
+        self.party.unwrap_or(EACH)
     }
 
+    // A number of more than 16 bits leaves the party as it was.
     pub fn set_party(&mut self, party: usize) {
-        self.party = Some(table::narrow(party));
+        if let Ok(number) = u16::try_from(party) {
+            self.party = if number == EACH { None } else { Some(number) };
+        }
     }
 
     // The numbers of the table.
@@ -60,10 +59,9 @@ impl Shared {
 
     // The same table for a party.
     pub fn with_party(&self, party: usize) -> Shared {
-        Shared {
-            table: self.table,
-            party: Some(table::narrow(party)),
-        }
+        let mut other = *self;
+        other.set_party(party);
+        other
     }
 
     // Writes a node behind the others, and answers its number.

@@ -77,15 +77,6 @@ impl<const N: usize> Numbers<N> {
         }
     }
 
-    // The numbers of a list, as many as there is room for; what is no number of a table is 0.
-    pub fn from_list(list: &[usize]) -> Self {
-        let mut table = Self::with_length(list.len());
-        for (place, x) in table.numbers.iter_mut().zip(list) {
-            *place = narrow(*x);
-        }
-        table
-    }
-
     // How many numbers there are.
     pub fn length(&self) -> usize {
         self.length.min(N)

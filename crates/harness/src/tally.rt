@@ -259,9 +259,9 @@ impl Tally {
         self.expect(self.at(Sum::Breaking) == 26170);
     }
 
-    // A part of the input ends, with a line `= NAME`.
+    // A part of the input ends, with a line `= NAME` and its newline; a last line without one loses a letter of the name.
     pub fn end_part(&mut self, text: &[u8]) {
-        let Some(name) = text.get(2..) else {
+        let Some(name) = text.get(2..text.len().saturating_sub(1)) else {
             return;
         };
         io::write_all(1, name);

@@ -37,24 +37,27 @@ fn expect_table(tally: &mut Tally, shared: &Shared, line: &Line) {
     }
 }
 
-// tree NUMBER PLACE | TABLE, or tree NUMBER PLACE PARTY | TABLE
-fn tree_of(line: &Line) -> Shared {
-    if line.length(0) < 3 {
-        return Shared::common(&line.table(1));
-    }
-    Shared::from_list(line.numbers(1), line.number(0, 2))
-}
-
 impl Present {
-    // A shared table becomes the present one.
-    fn take(&mut self, tally: &mut Tally, line: &Line, shared: Shared) {
-        self.shared = shared;
-        expect_table(tally, &shared, line);
+    // tree NUMBER PLACE | TABLE, or tree NUMBER PLACE PARTY | TABLE
+    fn run_tree(&mut self, tally: &mut Tally, line: &Line) {
+        if line.length(0) < 3 {
+            self.shared = Shared::common(&line.table(1));
+        } else {
+            line.copy_table(1, &mut self.shared.table);
+            self.shared.set_party(line.number(0, 2));
+        }
+        expect_table(tally, &self.shared, line);
+    }
+
+    // chain NUMBER PLACE | COUNT AT VALUE
+    fn run_chain(&mut self, tally: &mut Tally, line: &Line) {
+        self.shared = Shared::common(&chains::make_chain(line));
+        expect_table(tally, &self.shared, line);
     }
 
     // query NUMBER PLACE | COLUMNS | TABLE
     fn run_query(&mut self, tally: &mut Tally, line: &Line) {
-        self.query.table = line.table(2);
+        line.copy_table(2, &mut self.query.table);
         let got = query::check_query(self.query.numbers(), line.number(1, 0));
         expect(tally, line, got);
     }
@@ -67,7 +70,7 @@ impl Present {
 
     // least NUMBER PLACE | LEAST COLUMNS | TABLE
     fn run_least(&mut self, tally: &mut Tally, line: &Line) {
-        self.query.table = line.table(2);
+        line.copy_table(2, &mut self.query.table);
         let least = line.number(1, 0);
         let got = query::check_query_for(self.query.numbers(), least, line.number(1, 1));
         expect(tally, line, got);
@@ -110,8 +113,8 @@ impl Present {
         let line = Line::read(bytes);
         match *first {
             b'=' => tally.end_part(bytes),
-            b't' => self.take(tally, &line, tree_of(&line)),
-            b'c' => self.take(tally, &line, Shared::common(&chains::make_chain(&line))),
+            b't' => self.run_tree(tally, &line),
+            b'c' => self.run_chain(tally, &line),
             b'q' => self.run_query(tally, &line),
             b'n' => self.run_nested(tally, &line),
             b'l' => self.run_least(tally, &line),
@@ -179,7 +182,7 @@ pub fn run_all(text: &[u8]) {
         shared: Shared::new(),
         query: Query::new(),
     };
-    for bytes in text.split(|b| *b == b'\n') {
+    for bytes in text.split_inclusive(|b| *b == b'\n') {
         present.run_line(&mut tally, bytes);
     }
     tally.show_all();

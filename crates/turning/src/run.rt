@@ -34,7 +34,7 @@ fn run_line(tally: &mut Tally, counts: &mut Counts, bytes: &[u8]) {
 pub fn run_all(text: &[u8]) {
     let mut tally = Tally::new();
     let mut counts = Counts::new();
-    for bytes in text.split(|b| *b == b'\n') {
+    for bytes in text.split_inclusive(|b| *b == b'\n') {
         run_line(&mut tally, &mut counts, bytes);
     }
     counts.show_all();

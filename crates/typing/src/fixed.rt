@@ -14,17 +14,24 @@ pub struct Present {
     pub site: Text,
 }
 
-// The rest of a line `> TEXT`.
-pub fn text_of(line: &[u8]) -> Text {
+// The text of the line `> TEXT` at the front of the input: two bytes on, up to a newline or a byte 0. So a line of one byte takes the
+// next line.
+pub fn text_of(input: &[u8]) -> Text {
     let mut text = Text::new();
-    text.append(line.get(2..).unwrap_or(b""));
+    for byte in input.iter().skip(2) {
+        if matches!(*byte, b'\n' | 0) {
+            break;
+        }
+        text.push(*byte);
+    }
     text
 }
 
 // The names of a line as a vocabulary, each behind its length.
 pub fn vocabulary_of(line: &[u8]) -> Text {
     let mut vocabulary = Text::new();
-    for name in line.split(|b| *b == b' ').skip(1) {
+    let names = line.strip_suffix(b"\n").unwrap_or(line);
+    for name in names.split(|b| *b == b' ').skip(1) {
         vocabulary.push(byte(name.len()));
         vocabulary.append(name);
     }

@@ -22,15 +22,15 @@ impl Record {
         }
     }
 
-    // Runs a line; those that give a text or a vocabulary make it the present one.
-    fn run_line(&mut self, bytes: &[u8], p: &mut Present) {
+    // Runs the line at the front of the input; those that give a text or a vocabulary make it the present one.
+    fn run_line(&mut self, bytes: &[u8], input: &[u8], p: &mut Present) {
         self.tally.next_line();
         let Some(letter) = bytes.first() else {
             return;
         };
         match *letter {
             b'=' => self.tally.end_part(bytes),
-            b'>' => p.text = text_of(bytes),
+            b'>' => p.text = text_of(input),
             b'h' => p.house = vocabulary_of(bytes),
             b's' => p.site = vocabulary_of(bytes),
             other => self.run_check(&Line::read(bytes), other, p),
@@ -48,8 +48,10 @@ pub fn run_all(input: &[u8]) {
         house: Text::new(),
         site: Text::new(),
     };
-    for bytes in input.split(|b| *b == b'\n') {
-        record.run_line(bytes, &mut present);
+    let mut rest = input;
+    for bytes in input.split_inclusive(|b| *b == b'\n') {
+        record.run_line(bytes, rest, &mut present);
+        rest = rest.get(bytes.len()..).unwrap_or(b"");
     }
     record.counts.show_all();
     record.tally.show_all();
