@@ -1,6 +1,27 @@
 // What is due as a reply. The numbers are written out from the document (docs/REFERENCE.md, "Refusals"), and go by no conversion of
 // `model`: what a service told goes by those, so that a wrong number in one of them shows.
+use super::line::Line;
 use model::{ImageReply, Refusal, Reply};
+
+// What stands for the reply where more would be lent than there is: no service gives it.
+pub const NO_REPLY: ImageReply = ImageReply {
+    number: 65535,
+    place: 65535,
+    count: 65535,
+};
+
+// A number of a line as one of a reply. A larger one, too, is one that no service gives, and none that NO_REPLY has.
+fn narrow(x: usize) -> u16 {
+    u16::try_from(x).unwrap_or(65534)
+}
+
+// A part of a line, NUMBER PLACE, as the reply that is due.
+pub fn written(line: &Line, part: usize) -> Reply {
+    Reply {
+        number: narrow(line.number(part, 0)),
+        place: narrow(line.number(part, 1)),
+    }
+}
 
 // The number and the place of a refusal.
 pub fn reply(refusal: Refusal) -> Reply {

@@ -4,7 +4,7 @@ use super::query::Query;
 use super::tree::Tree;
 use harness::table;
 
-// The rows of so many variables over n nodes. A row is a number below count: its nodes are the digits to the base n, the
+// The rows of so many variables over n nodes; there are at most three variables, and no more rows for more. A row is a number below count: its nodes are the digits to the base n, the
 // first weighing most, so that rows are in order as their numbers are.
 #[derive(Clone, Copy)]
 pub struct Space {
@@ -15,7 +15,7 @@ pub struct Space {
 
 fn rows_over(n: usize, columns: usize) -> Space {
     let mut count = n;
-    for _ in 1..columns {
+    for _ in 1..columns.min(3) {
         count = count.wrapping_mul(n);
     }
     Space { n, columns, count }

@@ -132,14 +132,14 @@ impl<'a> Made<'a> {
         self.tasks_left = self.tasks_left.wrapping_add(1);
     }
 
-    // What is on top of the stack, if anything is to be done.
+    // What is on top of the stack, if anything is to be done; a word where the stack did not hold it.
     fn pop(&mut self) -> Option<Task> {
-        let top = self.tasks_left.wrapping_sub(1);
-        if top < DEPTH {
-            self.tasks_left = top;
-            return Some(self.tasks[top]);
+        if self.tasks_left == 0 {
+            return None;
         }
-        None
+        self.tasks_left -= 1;
+        let top = self.tasks.get(self.tasks_left).copied();
+        Some(top.unwrap_or(Task::Write(word(0))))
     }
 
     // A symbol is replaced by one of its productions, the first of it on top.

@@ -19,6 +19,11 @@ impl Text {
         table::front(&self.bytes, self.length)
     }
 
+    // All that was written; none where there was no room for some of it.
+    pub fn whole(&self) -> Option<&[u8]> {
+        self.bytes.get(..self.length)
+    }
+
     // How many bytes were written, with those for which there was no room.
     pub fn length(&self) -> usize {
         self.length

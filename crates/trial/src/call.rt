@@ -1,11 +1,12 @@
 // Calls of an evaluation, each with a buffer that is filled with a pattern: the reply is compared with the one that is due, the
 // count of an image too, and the buffer afterwards with the bytes that are due.
 use super::bit_pairs;
+use harness::due;
 use harness::line::Line;
 use harness::shared::Shared;
-use harness::table::{Cells, Set, Table, front};
+use harness::table::{Cells, Set, Table};
 use harness::tally::{Tally, uncounted};
-use model::{ImageReply, Refusal};
+use model::{ImageReply, Refusal, Reply};
 use reference::query::Query;
 
 // The services; and all pairs by the engine over sets, which no service and no line asks for.
@@ -89,15 +90,17 @@ fn serve(c: Call, lent: Lent, set: &[u8], to: &mut [u8]) -> ImageReply {
     }
 }
 
-// A call with the fronts of a set and of a buffer.
-fn compare(tally: &mut Tally, c: Call, lent: Lent, set: &[u8], to: &mut [u8], due: &[u8]) {
-    let end = c.room.min(to.len());
-    let got = serve(c, lent, front(set, c.set), &mut to[..end]);
+// A call with the fronts of a set and of a buffer, if they are so long.
+fn compare(tally: &mut Tally, c: Call, lent: Lent, set: &[u8], to: &mut [u8], bytes: &[u8]) {
+    let got = match (set.get(..c.set), to.get_mut(..c.room)) {
+        (Some(set), Some(to)) => serve(c, lent, set, to),
+        _ => due::NO_REPLY,
+    };
     match c.service {
         Service::Forwards | Service::Backwards => tally.expect_counted(got, c.due),
         _ => tally.expect_reply(uncounted(got), uncounted(c.due)),
     }
-    tally.expect_bytes(to, due, c.room);
+    tally.expect_bytes(to, bytes, c.room);
 }
 
 // A call on a buffer for a set.
@@ -131,26 +134,31 @@ pub fn compare_engines(tally: &mut Tally, c: Call, lent: Lent, due: &Cells) {
 pub fn run(tally: &mut Tally, shared: &Shared, query: &Query, line: &Line, service: Service) {
     let nodes = line.table(2);
     let mut set = [0u8; 512];
-    let mut due = [PATTERN; 512];
+    let mut bytes = [PATTERN; 512];
     line.copy_bytes(3, &mut set);
-    line.copy_bytes(4, &mut due);
+    line.copy_bytes(4, &mut bytes);
     let lent = Lent {
         shared,
         query,
         nodes: &nodes,
     };
+    let Reply { number, place } = due::written(line, 0);
     let c = Call {
         service,
         columns: line.number(1, 0),
         set: line.length(3),
         room: line.number(1, 1),
-        due: line.counted(0),
+        due: ImageReply {
+            number,
+            place,
+            count: line.number(0, 2),
+        },
     };
-    compare_set(tally, c, lent, &set, &due);
+    compare_set(tally, c, lent, &set, &bytes);
     if service != Service::Pairs {
         return;
     }
-    compare_set(tally, by_rows(c), lent, &set, &due);
+    compare_set(tally, by_rows(c), lent, &set, &bytes);
     if c.due.number == 0 {
         bit_pairs::run(tally, lent, line);
     }

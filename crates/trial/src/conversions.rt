@@ -2,7 +2,7 @@
 // pattern, with the words or bytes that are due.
 use super::{bit_pairs, call, searches};
 use harness::line::Line;
-use harness::table::{Cells, Words, front};
+use harness::table::{Cells, Words};
 use harness::tally::Tally;
 use reference::random::Seed;
 use reference::{bit_damage, bit_tables};
@@ -23,8 +23,10 @@ fn try_pack(tally: &mut Tally, c: Call, cells: &Cells) {
     if due.is_ok() {
         bit_tables::pack(cells, c.n, &mut words);
     }
-    let end = c.room.min(1040);
-    let got = packing::pack(c.n, front(cells, c.length), &mut to[..end]);
+    let got = match (cells.get(..c.length), to.get_mut(..c.room)) {
+        (Some(bytes), Some(lent)) => Some(packing::pack(c.n, bytes, lent)),
+        _ => None,
+    };
     bit_pairs::expect(tally, got, due);
     tally.expect_words(&to, &words);
 }
@@ -37,8 +39,10 @@ fn try_unpack(tally: &mut Tally, c: Call, words: &Words) {
     if due.is_ok() {
         bit_tables::unpack(words, c.n, &mut cells);
     }
-    let end = c.room.min(66560);
-    let got = packing::unpack(c.n, front(words, c.length), &mut to[..end]);
+    let got = match (words.get(..c.length), to.get_mut(..c.room)) {
+        (Some(bits), Some(lent)) => Some(packing::unpack(c.n, bits, lent)),
+        _ => None,
+    };
     bit_pairs::expect(tally, got, due);
     tally.expect_bytes(&to, &cells, c.room);
 }

@@ -22,6 +22,14 @@ pub struct Rooms {
     pub tags: usize,
 }
 
+// What stands for the reply where there is less room than would be lent: the service does not give it.
+const NO_REPLY: IndexReply = IndexReply {
+    number: 65535,
+    place: 65535,
+    next: 65535,
+    tags: 65535,
+};
+
 // Number and place.
 fn reply_of(told: &IndexReply) -> Reply {
     Reply {
@@ -62,15 +70,11 @@ pub fn compare(
     let mut next = [NEXT_PATTERN; 1024];
     let mut tags = [TAGS_PATTERN; 1024];
     let t = shared.numbers();
-    let next_end = rooms.next.min(1024);
-    let tags_end = rooms.tags.min(1024);
-    let told = parties::build_index(
-        t,
-        shared.party(),
-        &mut next[..next_end],
-        &mut tags[..tags_end],
-    );
-    let got = IndexReply::from(told);
+    let party = shared.party();
+    let got = match (next.get_mut(..rooms.next), tags.get_mut(..rooms.tags)) {
+        (Some(next), Some(tags)) => IndexReply::from(parties::build_index(t, party, next, tags)),
+        _ => NO_REPLY,
+    };
     tally.expect_reply(reply_of(&got), reply_of(due));
     tally.expect((got.next == due.next) & (got.tags == due.tags));
     tally.expect_rows(&next, due_next);
@@ -87,7 +91,7 @@ pub fn run(tally: &mut Tally, shared: &Shared, line: &Line) {
         next: line.number(1, 0),
         tags: line.number(1, 1),
     };
-    let reply = line.reply(0);
+    let reply = due::written(line, 0);
     let due = IndexReply {
         number: reply.number,
         place: reply.place,

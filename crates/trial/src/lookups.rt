@@ -1,6 +1,7 @@
 // Searches by an index: each call is compared with the reply and the count that are due, and the buffer with the bytes that are
 // due.
 use super::call;
+use harness::due;
 use harness::line::Line;
 use harness::shared::Shared;
 use harness::table::{Set, Table, narrow};
@@ -16,20 +17,20 @@ pub struct Call {
     pub due: ImageReply,
 }
 
-pub fn compare(tally: &mut Tally, shared: &Shared, next: &Table, c: Call, due: &Set) {
+pub fn compare(tally: &mut Tally, shared: &Shared, next: &Table, c: Call, bytes: &Set) {
     let mut to = [call::PATTERN; 512];
     let t = shared.numbers();
-    let end = c.room.min(512);
-    let told = parties::descendants(
-        t,
-        shared.party(),
-        next.numbers(),
-        narrow(c.start),
-        narrow(c.tag),
-        &mut to[..end],
-    );
-    tally.expect_counted(ImageReply::from(told), c.due);
-    tally.expect_bytes(&to, due, c.room);
+    let party = shared.party();
+    let start = narrow(c.start);
+    let tag = narrow(c.tag);
+    let got = match to.get_mut(..c.room) {
+        Some(lent) => {
+            ImageReply::from(parties::descendants(t, party, next.numbers(), start, tag, lent))
+        }
+        None => due::NO_REPLY,
+    };
+    tally.expect_counted(got, c.due);
+    tally.expect_bytes(&to, bytes, c.room);
 }
 
 // descendants NUMBER PLACE COUNT | START TAG ROOM | NEXT | BYTES

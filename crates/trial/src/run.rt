@@ -4,10 +4,10 @@ use super::pages::{Tables, Way};
 use super::{
     call, compare, conversions, deep, indexes, kept, lookups, pages, paging, searches, views,
 };
-use harness::chains;
 use harness::line::Line;
 use harness::shared::Shared;
 use harness::tally::{ACCEPTED, Sum, Tally};
+use harness::{chains, due};
 use model::{Refusal, Reply};
 use reference::query::Query;
 use reference::random::Seed;
@@ -21,19 +21,19 @@ struct Present {
 
 // The first part of a line says which number and place are due.
 fn expect(tally: &mut Tally, line: &Line, got: Result<(), Refusal>) {
-    tally.expect_reply(Reply::from(got), line.reply(0));
+    tally.expect_reply(Reply::from(got), due::written(line, 0));
 }
 
 // The check of a shared table, which does not judge the party; where something is refused, so is the tree that is seen.
 fn expect_table(tally: &mut Tally, shared: &Shared, line: &Line) {
-    let due = line.reply(0);
+    let due = due::written(line, 0);
     let got = Reply::from(ownership::check_table(shared.numbers()));
     match due.number {
         31 => tally.expect_reply(got, ACCEPTED),
         _ => tally.expect_reply(got, due),
     }
     if 0 < due.number {
-        views::refuse(tally, shared, 512, due);
+        views::refuse(tally, shared, 512, line.reply(0));
     }
 }
 

@@ -12,13 +12,15 @@ use reference::random::Seed;
 use reference::tree::Tree;
 
 // A call with room for so many numbers: a reply is due, and numbers at the front of the buffer.
-fn compare(tally: &mut Tally, shared: &Shared, room: usize, due: ImageReply, numbers: &[u16]) {
+fn compare(tally: &mut Tally, shared: &Shared, room: usize, reply: ImageReply, numbers: &[u16]) {
     let mut to = [pages::PATTERN; 1024];
     let mut rows = [pages::PATTERN; 1024];
     copy(numbers, &mut rows);
-    let end = room.min(1024);
-    let got = view::seen(shared.numbers(), shared.party(), &mut to[..end]);
-    tally.expect_counted(ImageReply::from(got), due);
+    let got = match to.get_mut(..room) {
+        Some(lent) => ImageReply::from(view::seen(shared.numbers(), shared.party(), lent)),
+        None => due::NO_REPLY,
+    };
+    tally.expect_counted(got, reply);
     tally.expect_rows(&to, &rows);
 }
 
@@ -63,11 +65,10 @@ pub fn compare_rooms(tally: &mut Tally, seed: &mut Seed, shared: &Shared, tree: 
 
 // yields NUMBER PLACE | ROOM | TABLE
 pub fn run(tally: &mut Tally, shared: &Shared, line: &Line) {
-    let due = line.reply(0);
     let room = line.number(1, 0);
-    if due.number == 0 {
+    if line.number(0, 0) == 0 {
         accept(tally, shared, room, &line.table(2));
         return;
     }
-    refuse(tally, shared, room, due);
+    refuse(tally, shared, room, line.reply(0));
 }

@@ -3,7 +3,7 @@
 use harness::due;
 use harness::line::Line;
 use harness::shared::Shared;
-use harness::table::{Rows, copy, front};
+use harness::table::{copy, front};
 use harness::tally::{ACCEPTED, Tally};
 use model::{ImageReply, Refusal, Reply};
 use reference::damage;
@@ -21,18 +21,17 @@ pub struct Call<'a> {
     pub room: usize,
 }
 
-// The service, which writes to the front of a buffer.
-fn serve(c: Call, to: &mut Rows) -> Result<usize, Refusal> {
-    let room = c.room.min(1024);
-    reversal::reverse(c.query.numbers(), c.columns, &mut to[..room])
-}
-
 // A call with the reply that is due, and the numbers that are due at the buffer's front; the rest of the buffer is due to be as it was.
+// A room beyond the buffer fails.
 fn compare(tally: &mut Tally, c: Call, due: ImageReply, numbers: &[u16]) {
     let mut to = [PATTERN; 1024];
     let mut rows = [PATTERN; 1024];
     copy(numbers, &mut rows);
-    let got = serve(c, &mut to);
+    let Some(lent) = to.get_mut(..c.room) else {
+        tally.expect(false);
+        return;
+    };
+    let got = reversal::reverse(c.query.numbers(), c.columns, lent);
     tally.expect_counted(ImageReply::from(got), due);
     tally.expect_rows(&to, &rows);
 }
@@ -111,12 +110,7 @@ pub fn expect_accepted(tally: &mut Tally, reversed: &Query, columns: usize) {
 // The reversed query; an empty one if it is refused.
 pub fn reverse(query: &Query, columns: usize) -> Query {
     let mut to = [0u16; 1024];
-    let c = Call {
-        query,
-        columns,
-        room: 1024,
-    };
-    let count = serve(c, &mut to).unwrap_or(0);
+    let count = reversal::reverse(query.numbers(), columns, &mut to).unwrap_or(0);
     let mut reversed = Query::new();
     for x in front(&to, count) {
         reversed.table.push(usize::from(*x));
@@ -124,7 +118,7 @@ pub fn reverse(query: &Query, columns: usize) -> Query {
     reversed
 }
 
-// reverse NUMBER PLACE | COLUMNS ROOM | QUERY | TABLE
+// reverse NUMBER PLACE | COLUMNS ROOM | QUERY | TABLE, where a call that is refused has no use for TABLE
 pub fn run(tally: &mut Tally, line: &Line) {
     let query = Query {
         table: line.table(2),
@@ -135,9 +129,12 @@ pub fn run(tally: &mut Tally, line: &Line) {
         room: line.number(1, 1),
     };
     let table = line.table(3);
+    let Reply { number, place } = due::written(line, 0);
+    let written = if number == 0 { table.numbers() } else { &[] };
     let due = ImageReply {
-        count: table.length(),
-        ..line.counted(0)
+        number,
+        place,
+        count: written.len(),
     };
-    compare(tally, c, due, table.numbers());
+    compare(tally, c, due, written);
 }

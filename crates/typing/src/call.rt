@@ -5,12 +5,12 @@ use harness::tally::Tally;
 use model::{Read, ReadReply, Refusal, Reply};
 use texts::grow::{Numbers, PATTERN};
 
-// What a call is lent: the text, both vocabularies, and how much of a buffer.
+// What a call is lent: the text, both vocabularies, which are none where they are longer than their buffers, and how much of a buffer.
 #[derive(Clone, Copy)]
 pub struct Lent<'a> {
     pub text: &'a [u8],
-    pub house: &'a [u8],
-    pub site: &'a [u8],
+    pub house: Option<&'a [u8]>,
+    pub site: Option<&'a [u8]>,
     pub room: usize,
 }
 
@@ -45,17 +45,29 @@ pub fn accepted(read: Read) -> ReadReply {
     }
 }
 
-// Lends the front of the buffer, or all of it where that is less.
-fn call(lent: Lent, query: &mut Numbers) -> Result<Read, Refusal> {
-    let room = lent.room.min(320);
-    reader::read(lent.text, lent.house, lent.site, &mut query[..room])
+// What stands for the reply where more would be lent than there is: the reader never gives it.
+const NO_REPLY: ReadReply = ReadReply {
+    number: 65535,
+    place: 65535,
+    count: 0,
+    columns: 0,
+};
+
+// Lends the vocabularies and the front of the buffer.
+fn call(lent: Lent, query: &mut Numbers) -> ReadReply {
+    match (lent.house, lent.site, query.get_mut(..lent.room)) {
+        (Some(house), Some(site), Some(query)) => {
+            ReadReply::from(reader::read(lent.text, house, site, query))
+        }
+        _ => NO_REPLY,
+    }
 }
 
 impl Record {
     // A call with the reply and the buffer that are due.
     pub fn compare(&mut self, lent: Lent, due: ReadReply, table: &Numbers) {
         let mut query = NOTHING;
-        let got = ReadReply::from(call(lent, &mut query));
+        let got = call(lent, &mut query);
         self.counts.add_reply(got.number);
         self.tally.expect(got == due);
         self.tally.expect(query == *table);
@@ -69,7 +81,7 @@ impl Record {
     // A call with a text that is grammatical, and of whose table nothing is known.
     pub fn compare_whole(&mut self, lent: Lent) {
         let mut query = NOTHING;
-        let got = ReadReply::from(call(lent, &mut query));
+        let got = call(lent, &mut query);
         self.counts.add_reply(got.number);
         let has_table = (0 < got.count) & (got.count <= lent.room);
         match got.number {

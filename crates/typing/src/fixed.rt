@@ -74,8 +74,8 @@ impl Record {
         for length in line.number(0, 0)..text.len() {
             let lent = Lent {
                 text: front(text, length),
-                house: p.house.bytes(),
-                site: p.site.bytes(),
+                house: p.house.whole(),
+                site: p.site.whole(),
                 room: 320,
             };
             let due = super::call::refused(Refusal::Ungrammatical(narrow(length)));
@@ -84,13 +84,13 @@ impl Record {
     }
 
     // The present text, with a house vocabulary.
-    fn run_with(&mut self, line: &Line, p: &Present, house: &[u8]) {
+    fn run_with(&mut self, line: &Line, p: &Present, house: Option<&[u8]>) {
         let mut due = NOTHING;
         line.copy_numbers(2, &mut due);
         let lent = Lent {
             text: p.text.bytes(),
             house,
-            site: p.site.bytes(),
+            site: p.site.whole(),
             room: line.number(1, 0),
         };
         self.expect(lent, reply(line), &due);
@@ -98,7 +98,7 @@ impl Record {
 
     // read NUMBER PLACE COUNT COLUMNS | ROOM | TABLE
     pub fn run_read(&mut self, line: &Line, p: &Present) {
-        self.run_with(line, p, p.house.bytes());
+        self.run_with(line, p, p.house.whole());
     }
 
     // many NUMBER PLACE COUNT COLUMNS | ROOM | TABLE | NAMES: as read, with a house vocabulary of so many names `x`
@@ -109,6 +109,6 @@ impl Record {
         for name in house.chunks_exact_mut(2).take(names) {
             name.copy_from_slice(b"\x01x");
         }
-        self.run_with(line, p, front(&house, names.wrapping_mul(2)));
+        self.run_with(line, p, house.get(..names.wrapping_mul(2)));
     }
 }

@@ -81,8 +81,8 @@ impl Books {
     fn lend<'a>(&'a self, text: &'a [u8], room: usize) -> Lent<'a> {
         Lent {
             text,
-            house: self.house.bytes(),
-            site: self.site.bytes(),
+            house: self.house.whole(),
+            site: self.site.whole(),
             room,
         }
     }
