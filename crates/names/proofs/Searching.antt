@@ -5,10 +5,11 @@ use native.Mathlib.Omega.{arith}
 use mathlib.Core.Path.{◌≡◌, refl, sym, ap, ap₂, ◌∙◌}
 use mathlib.Core.Bool.{Bool, true, false, ◌&&◌, cond}
 use mathlib.Core.List.{List, [], ◌∷◌, ◌++◌, map, map-append, append-nil}
-use lib.ListN.{length, take, drop, get_or, length-drop, drop_of_length-le}
-use lib.Seq.{drop-cons, take_all}
+use lib.ListN.{length, take, drop, get_or, length-drop}
+use lib.Seq.{take_all}
 use lib.Dec.{ltb, eqb}
-use borrow.Author.Tests.{eq-eqb, ne_eqb, lt-ltb, le-ltb, ltb-true, ltb-false}
+use lib.Pointwise.{pointwise}
+use borrow.Author.Tests.{lt-ltb, le-ltb, ltb-true, ltb-false}
 use Rattle.model.proofs.Booleans.{Seen, yes!, no!, seen, no_yes}
 use Rattle.names.specs.declared.Table.{Table}
 use Rattle.names.specs.declared.Table.TheVariants.{House, Site}
@@ -22,46 +23,24 @@ use Rattle.names.proofs.Reading.{name_there, no_names}
 
 -- two lists of bytes
 
-and_no : (a b : Bool) → b ≡ false → (a && b) ≡ false
-and_no true b h = h
-and_no false b h = refl
-
-pub other_size : (a b : List ℕ) → (length a ≡ length b → ⊥) → false ≡ equal a b
+-- the equality of slices, which compares them byte for byte
+pointwise_is : (a b : List ℕ) → pointwise eqb a b ≡ equal a b
 unfolding equal
-other_size [] [] h = absurd (h refl)
-other_size [] (y ∷ b) h = refl
-other_size (x ∷ a) [] h = refl
-other_size (x ∷ a) (y ∷ b) h = sym (and_no (eqb x y) (equal a b) (sym (other_size a b (λ e. h (ap suc e)))))
-
--- the loop that compares them: what is before i is the same
-module _ (a b : List ℕ) (i : ℕ) (inv : equal (drop i a) (drop i b) ≡ equal a b) where
-  opened : i < length a → i < length b → equal (drop i a) (drop i b) ≡ (eqb (get_or a i 0) (get_or b i 0) && equal (drop (i + 1) a) (drop (i + 1) b))
-  unfolding equal
-  opened l m = ap₂ equal (front a l) (front b m)
-    where
-      front : (x : List ℕ) → i < length x → drop i x ≡ get_or x i 0 ∷ drop (i + 1) x
-      front x l = drop-cons x i 0 l ∙ ap (λ (k : ℕ). get_or x i 0 ∷ drop k x) (sym (add-one i))
-
-  pub byte_differs : i < length a → length a ≡ length b → (get_or a i 0 ≡ get_or b i 0 → ⊥) → false ≡ equal a b
-  byte_differs l e d = sym (opened l (omega arith) ∙ rw (ne_eqb (get_or a i 0) (get_or b i 0) d)) ∙ inv
-
-  pub byte_same : i < length a → length a ≡ length b → get_or a i 0 ≡ get_or b i 0 → equal (drop (i + 1) a) (drop (i + 1) b) ≡ equal a b
-  byte_same l e d = sym (opened l (omega arith) ∙ rw (eq-eqb (get_or a i 0) (get_or b i 0) d)) ∙ inv
-
-  pub all_same : length a ≤ i → length a ≡ length b → true ≡ equal a b
-  unfolding equal
-  all_same l e = sym (rw (drop_of_length-le a {i = i} l, drop_of_length-le b {i = i} (omega arith))) ∙ inv
+pointwise_is [] [] = refl
+pointwise_is [] (y ∷ b) = refl
+pointwise_is (x ∷ a) [] = refl
+pointwise_is (x ∷ a) (y ∷ b) = ap (λ (r : Bool). eqb x y && r) (pointwise_is a b)
 
 -- a name that runs past the table's end has the bytes up to it
 pub name_compared : (t name : List ℕ) (start len least : ℕ) (r : Bool) → start ≤ length t
     → least ≡ min len (length (take (length t - start) (drop start t)))
-    → r ≡ equal (take least (take (length t - start) (drop start t))) name → r ≡ equal (take len (drop start t)) name
+    → r ≡ pointwise eqb (take least (take (length t - start) (drop start t))) name → r ≡ equal (take len (drop start t)) name
 name_compared t name start len least r h m e =
     let l : length (drop start t) ≡ length t - start = length-drop start t in
     let w : take (length t - start) (drop start t) ≡ drop start t = take_all (length t - start) (drop start t) (omega arith) in
     let n : least ≡ min len (length (drop start t)) = rw w at m in
-    let f : r ≡ equal (take least (drop start t)) name = rw w at e in
-    f ∙ ap (λ (x : List ℕ). equal x name) (rw n (least_taken len (drop start t)))
+    let f : r ≡ pointwise eqb (take least (drop start t)) name = rw w at e in
+    f ∙ pointwise_is (take least (drop start t)) name ∙ ap (λ (x : List ℕ). equal x name) (rw n (least_taken len (drop start t)))
   where
     least_taken : (n : ℕ) (x : List ℕ) → take (min n (length x)) x ≡ take n x
     least_taken n x = go (seen (ltb n (length x)))

@@ -127,29 +127,13 @@ pub fn name<'a>(house: &'a [u8], site: &'a [u8], tag: u16) -> &'a [u8]
     }
 }
 
-// Whether two runs of bytes are the same. It stops at the first byte that differs, as `==` of slices does only at the first four: many
-// names of a vocabulary begin alike.
-fn is_same(a: &[u8], b: &[u8]) -> bool
-    ensures { result ≡ equal a.now b.now }
-{
-    if a.len() != b.len() {
-        return false;
-    }
-    for i in 0..a.len() {
-        if a[i] != b[i] {
-            return false;
-        }
-    }
-    true
-}
-
 // Whether the name of `len` bytes at `start` of a table is this one. One that runs past the table's end has the bytes up to it.
 fn is_name(table: &[u8], start: usize, len: usize, name: &[u8]) -> bool
     requires { start ≤ length table.now }
     ensures { result ≡ equal (take len (drop start table.now)) name.now }
 {
     let rest = &table[start..];
-    is_same(&rest[..len.min(rest.len())], name)
+    &rest[..len.min(rest.len())] == name
 }
 
 // The first name of a table that has these bytes, by its number, counted from `from`; where there is none, how many names are counted by

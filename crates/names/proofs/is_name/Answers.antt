@@ -3,4 +3,4 @@ use Rattle.names.proofs.Searching.{name_compared}
 use Rattle.names.proofs.is_name.Goals as goal
 
 pub returns : goal.returns
-returns c = name_compared _ _ _ _ _ _ c.requires c.min.ensures c.is_same.ensures
+returns c = name_compared _ _ _ _ _ _ c.requires c.min.ensures c.eq.ensures
