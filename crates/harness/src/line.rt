@@ -91,6 +91,13 @@ impl Line {
         }
     }
 
+    // The numbers of a part, without those for which the line has no room.
+    pub fn numbers(&self, part: usize) -> &[usize] {
+        let end = table::at(&self.ends, part).min(NUMBERS);
+        let start = self.start(part).min(end);
+        &self.numbers[start..end]
+    }
+
     // How many numbers a part has, with those for which the line has no room.
     pub fn length(&self, part: usize) -> usize {
         table::at(&self.ends, part).saturating_sub(self.start(part))
@@ -166,5 +173,36 @@ impl Line {
             second: table::narrow(self.number(part, 2)),
             third: table::narrow(self.number(part, 3)),
         }
+    }
+}
+
+#[cfg(test)]
+mod tests {
+    use super::*;
+
+    #[test]
+    fn numbers_of_parts(rt: HostRuntime) {
+        let line = Line::read(b"1 2 | | 30 x 4 # 5\n");
+        assert_eq!(rt; line.numbers(0), [1, 2].as_slice());
+        assert_eq!(rt; line.numbers(2), [30, 4].as_slice());
+        for part in [1, 3, 7, 8] {
+            assert!(rt; line.numbers(part).is_empty(), "part {part}");
+        }
+    }
+
+    // There is room for 1,024 numbers of the first part's 1,025, and for none of the second.
+    #[test]
+    fn numbers_of_a_full_line(rt: HostRuntime) {
+        let mut text = [b' '; 2054];
+        for k in 0..1025 {
+            text[2 * k] = b'7';
+        }
+        text[2050] = b'|';
+        text[2052] = b'8';
+        text[2053] = b'\n';
+        let line = Line::read(&text);
+        assert_eq!(rt; line.numbers(0), [7; 1024].as_slice());
+        assert!(rt; line.numbers(1).is_empty());
+        assert_eq!(rt; line.length(0), 1025);
     }
 }
